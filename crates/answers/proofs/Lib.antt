@@ -1,2 +1,4 @@
 pub mod WordLaws
 pub mod WorkedWords
+pub mod Reasons
+pub mod Passed

@@ -7,7 +7,11 @@ use native.Mathlib.Omega.{arith}
 use lib.Dec.{leb}
 use lib.ListN.{length}
 use borrow.Author.Tests.{le-leb, lt-leb}
-use Rattle.calculus.specs.Answer.{Refusal, Answer, good, refused, refuse, numbered, ◌>>=◌, need}
+use Rattle.std.specs.Prelude.{Result, Ok, Err}
+use Rattle.answers.specs.Refusals.{said_why, refusal_at}
+use Rattle.answers.specs.declared.Reason.{Reason}
+use Rattle.answers.specs.declared.Refusal.{Refusal as Why}
+use Rattle.calculus.specs.Answer.{Refusal, Answer, good, refused, ◌>>=◌, need}
 use Rattle.calculus.specs.Net.{Element, Net}
 use Rattle.calculus.specs.NetRead.{Known, read_net}
 use Rattle.calculus.specs.Record.{All}
@@ -16,18 +20,14 @@ use Rattle.calculus.proofs.Answers.{refused≢good, good-inj, refused-inj}
 use Rattle.foreign_calculus.specs.Foreign.{Bytes, check, Checked, check_call}
 use Rattle.foreign_theorems.proofs.Exact.{check-exact}
 use Rattle.foreign.specs.Walk.{said_check, called_check}
-use Rattle.foreign.specs.declared.Verdict.{Verdict}
-use Rattle.foreign.specs.declared.Verdict.TheVariants as verdict
 use Rattle.back_calculus.specs.Back.{gates, open_ins, back_sheet}
 use Rattle.back_calculus.specs.Returned.{no_point, within, returned, back_answer, back_call}
 use Rattle.back_theorems.proofs.Main.{accepts-read, parts_of_lem}
 use Rattle.back.specs.Gates.{net_here, AcceptedNet, OfParts, PartsTo, parts_or25}
-use Rattle.translator.specs.Said.{in_room, AnswerSays, called, refused_as_lem}
-use Rattle.translator.specs.declared.Answer as code
+use Rattle.translator.specs.Said.{in_room, AnswerSays, called}
 use Rattle.back.specs.Said.{said_parts}
 use Rattle.back.specs.Answered.{limit_answer, net_answer}
 use Rattle.back.specs.declared.gates.Parts.{Parts}
-use Rattle.back.specs.declared.gates.Parts.TheVariants as parts
 use Rattle.back.proofs.GateLaws.{parts_to, here-is}
 
 -- ---- 26
@@ -46,56 +46,56 @@ module _ (m : Net) where
   within_all a b h = rw (le-leb 1 (length m.elements) a, le-leb (length m.elements) 16 b, le-leb (open_ins (gates m)) 24 h)
 
   module _ (out : List ℕ) where
-    says-26 : within m ≡ false → AnswerSays (refused_as_lem 26 0) out out (limit_answer m (length out))
+    says-26 : within m ≡ false → AnswerSays (Err (refusal_at Reason.WrongPartCount 0)) out out (limit_answer m (length out))
     unfolding limit_answer
     says-26 e = rw e (record { said = refl; wrote = refl })
 
-    pub says_none : length m.elements ≡ 0 → AnswerSays (refused_as_lem 26 0) out out (limit_answer m (length out))
+    pub says_none : length m.elements ≡ 0 → AnswerSays (Err (refusal_at Reason.WrongPartCount 0)) out out (limit_answer m (length out))
     says_none e = says-26 (within_none e)
 
-    pub says-many : 16 < length m.elements → AnswerSays (refused_as_lem 26 0) out out (limit_answer m (length out))
+    pub says-many : 16 < length m.elements → AnswerSays (Err (refusal_at Reason.WrongPartCount 0)) out out (limit_answer m (length out))
     says-many h = says-26 (within-many (omega arith) h)
 
-    pub says-open : 1 ≤ length m.elements → length m.elements ≤ 16 → 24 < open_ins (gates m) → AnswerSays (refused_as_lem 26 0) out out (limit_answer m (length out))
+    pub says-open : 1 ≤ length m.elements → length m.elements ≤ 16 → 24 < open_ins (gates m) → AnswerSays (Err (refusal_at Reason.WrongPartCount 0)) out out (limit_answer m (length out))
     says-open a b h = says-26 (within-open a b h)
 
-    pub says-within : (r : code.Answer) (after : List ℕ) → 1 ≤ length m.elements → length m.elements ≤ 16 → open_ins (gates m) ≤ 24 → AnswerSays r out after (in_room (back_sheet m) (length out)) → AnswerSays r out after (limit_answer m (length out))
+    pub says-within : (r : Result ℕ Why) (after : List ℕ) → 1 ≤ length m.elements → length m.elements ≤ 16 → open_ins (gates m) ≤ 24 → AnswerSays r out after (in_room (back_sheet m) (length out)) → AnswerSays r out after (limit_answer m (length out))
     unfolding limit_answer
     says-within r after a b h w = rw (within_all a b h) w
 
 -- ---- 25
 
-module _ (s : List ℕ) (a : AcceptedNet s) (p : Parts) (e : said_parts p ≡ parts_or25 (net_here s).elements) where
+module _ (s : List ℕ) (a : AcceptedNet s) (p : Result Parts Why) (e : said_parts p ≡ parts_or25 (net_here s).elements) where
   abbrev es : List Element
   es = (net_here s).elements
 
-  pub says_25 : (out : List ℕ) (at : ℕ) → p ≡ parts.Point at → AnswerSays (refused_as_lem 25 at) out out (net_answer (net_here s) (length out))
+  pub says_25 : (out : List ℕ) (why : Why) → p ≡ Err why → AnswerSays (Err why) out out (net_answer (net_here s) (length out))
   unfolding net_answer
-  says_25 out at q = by (no_point (net_here s).elements 0) (sym (ap said_parts q) ∙ e)
+  says_25 out why q = by (no_point (net_here s).elements 0) (sym (ap said_parts q) ∙ e)
     where
-      by : (x : Answer (Unit {0})) → refuse 25 at ≡ (x >>= λ _. good (parts_to (length (net_here s).elements))) → AnswerSays (refused_as_lem 25 at) out out (x >>= λ _. limit_answer (net_here s) (length out))
+      by : (x : Answer (Unit {0})) → refused (said_why why) ≡ (x >>= λ _. good (parts_to (length (net_here s).elements))) → AnswerSays (Err why) out out (x >>= λ _. limit_answer (net_here s) (length out))
       by (good u) z = absurd (refused≢good z)
-      by (refused why) z = rw (← refused-inj z) (record { said = refl; wrote = refl })
+      by (refused w) z = rw (← refused-inj z) (record { said = refl; wrote = refl })
 
-  no-point-here : (n w : ℕ) → p ≡ parts.All n w → (no_point (net_here s).elements 0 ≡ good tt) × (n ≡ length (net_here s).elements) × (w ≡ 4 * n)
-  no-point-here n w q = by (no_point (net_here s).elements 0) (sym (ap said_parts q) ∙ e)
+  no-point-here : (v : Parts) → p ≡ Ok v → (no_point (net_here s).elements 0 ≡ good tt) × (v.count ≡ length (net_here s).elements) × (v.wires ≡ 4 * v.count)
+  no-point-here v q = by (no_point (net_here s).elements 0) (sym (ap said_parts q) ∙ e)
     where
-      by : (x : Answer (Unit {0})) → good (record { parts = n; wires = w }) ≡ (x >>= λ _. good (parts_to (length (net_here s).elements))) → (x ≡ good tt) × (n ≡ length (net_here s).elements) × (w ≡ 4 * n)
+      by : (x : Answer (Unit {0})) → good (record { parts = v.count; wires = v.wires }) ≡ (x >>= λ _. good (parts_to (length (net_here s).elements))) → (x ≡ good tt) × (v.count ≡ length (net_here s).elements) × (v.wires ≡ 4 * v.count)
       by (good u) z =
           let k = good-inj z in
-          let m : n ≡ length (net_here s).elements = ap (λ (y : PartsTo). y.parts) k in
+          let m : v.count ≡ length (net_here s).elements = ap (λ (y : PartsTo). y.parts) k in
           (refl, m, ap (λ (y : PartsTo). y.wires) k ∙ ap (λ (y : ℕ). 4 * y) (sym m))
       by (refused why) z = absurd (refused≢good (sym z))
 
-  pub parts-here : (n w : ℕ) → p ≡ parts.All n w → OfParts s n × (w ≡ 4 * n)
-  parts-here n w q =
+  pub parts-here : (v : Parts) → p ≡ Ok v → OfParts s v.count × (v.wires ≡ 4 * v.count)
+  parts-here v q =
       let k : All Known (net_here s).elements = subst (λ (m : Net). All Known m.elements) (sym (here-is s a)) a.accepts.known in
-      let z = no-point-here n w q in
+      let z = no-point-here v q in
       (record { accepted = a; parts = parts_of_lem (net_here s).elements 0 k z.0; count = z.1 }, z.2)
 
-  pub says_parts : (n w : ℕ) → p ≡ parts.All n w → (r : code.Answer) (out after : List ℕ) → AnswerSays r out after (limit_answer (net_here s) (length out)) → AnswerSays r out after (net_answer (net_here s) (length out))
+  pub says_parts : (v : Parts) → p ≡ Ok v → (r : Result ℕ Why) (out after : List ℕ) → AnswerSays r out after (limit_answer (net_here s) (length out)) → AnswerSays r out after (net_answer (net_here s) (length out))
   unfolding net_answer
-  says_parts n w q r out after z = rw (no-point-here n w q).0 z
+  says_parts v q r out after z = rw (no-point-here v q).0 z
 
 -- ---- the call
 
@@ -115,7 +115,7 @@ answer-net (good u) true room b = refl
 answer-net (good u) false room b = refl
 answer-net (refused why) t room b = refl
 
-module _ (lean : Bool) (s w w' : List ℕ) (v : Verdict) (e : called_check v w' ≡ check_call lean s w) where
+module _ (lean : Bool) (s w w' : List ℕ) (v : Result (Unit {0}) Why) (e : called_check v w' ≡ check_call lean s w) where
   said-is : said_check v ≡ (need (leb 32768 (length w)) 1 0 >>= λ _. check lean s)
   unfolding check_call
   said-is = ap (λ (c : Checked). c.said) e
@@ -124,13 +124,13 @@ module _ (lean : Bool) (s w w' : List ℕ) (v : Verdict) (e : called_check v w' 
   unfolding check_call
   work-is = ap (λ (c : Checked). c.work) e
 
-  pub call_refused : (n p : ℕ) → v ≡ verdict.Refused n p → (out : List ℕ) → called (refused_as_lem n p) out w' ≡ back_call lean s out w
+  pub call_refused : (why : Why) → v ≡ Err why → (out : List ℕ) → called (Err why) out w' ≡ back_call lean s out w
   unfolding back_call back_answer returned
-  call_refused n p q out =
-      let z : back_answer (length w) lean s (length out) ≡ refuse n p = off (leb 32768 (length w)) (check lean s) _ _ (numbered n p) (sym (ap said_check q) ∙ said-is) in
+  call_refused why q out =
+      let z : back_answer (length w) lean s (length out) ≡ refused (said_why why) = off (leb 32768 (length w)) (check lean s) _ _ (said_why why) (sym (ap said_check q) ∙ said-is) in
       rw (z, work-is)
 
-  module _ (q : v ≡ verdict.Accepted) (b : Bytes s) where
+  module _ (u : Unit {0}) (q : v ≡ Ok u) (b : Bytes s) where
     checked : (leb 32768 (length w) ≡ true) × (check lean s ≡ good tt)
     checked = passed (leb 32768 (length w)) (check lean s) (sym (ap said_check q) ∙ said-is)
 
@@ -144,6 +144,6 @@ module _ (lean : Bool) (s w w' : List ℕ) (v : Verdict) (e : called_check v w' 
     unfolding back_answer returned net_answer limit_answer in_room
     answer-is room = rw (checked.0, checked.1, read_is) (answer-net (no_point (net_here s).elements 0) (within (net_here s)) room (back_sheet (net_here s)))
 
-    pub call-good : (r : code.Answer) (out after : List ℕ) → AnswerSays r out after (net_answer (net_here s) (length out)) → called r after w' ≡ back_call lean s out w
+    pub call-good : (r : Result ℕ Why) (out after : List ℕ) → AnswerSays r out after (net_answer (net_here s) (length out)) → called r after w' ≡ back_call lean s out w
     unfolding back_call
     call-good r out after y = rw (answer-is (length out), work-is, y.said, y.wrote)

@@ -5,13 +5,16 @@ use mathlib.Core.List.{List, [], ◌∷◌, ◌++◌, map, append_assoc}
 use native.Mathlib.Omega.{arith}
 use lib.ListN.{length, get_or, drop, length-drop}
 use borrow.Author.Tests.{eq-eqb, ne_eqb}
-use Rattle.calculus.specs.Answer.{Answer, good, ◌>>=◌}
-use Rattle.calculus.specs.Net.{Interface, number, Element, point, part, Wire, Net, element, wire, pin, item_bytes, element_bytes, wire_bytes, pin_bytes, net_bytes}
+use Rattle.calculus.specs.Answer.{Answer, good, refuse, ◌>>=◌}
+use Rattle.calculus.specs.Net.{Interface, number, Element, point, part, Wire, wire_of, Net, element, wire, pin, item_bytes, element_bytes, wire_bytes, pin_bytes, net_bytes}
 use Rattle.calculus.specs.Lean.{driver}
 use Rattle.calculus.specs.NetRead.{Fits, Front, item, ended, broken, item_at}
 use Rattle.calculus.specs.Record.{All}
 use Rattle.sheet_theorems.proofs.Bytes.{behind, within}
-use Rattle.circuit_theorems.proofs.Lists.{all_left, all_right}
+use Rattle.circuit_theorems.proofs.Lists.{all_left, all_right, all-at, all_map}
+use Rattle.circuit_theorems.proofs.Terminals.{out_high}
+use Rattle.calculus.specs.Inputs.{is_out}
+use lib.Dec.{T}
 use Rattle.circuit_theorems.proofs.NetRead.{items_of, ends-here, item_here}
 use Rattle.circuit_theorems.proofs.Told.{items_fit}
 use Rattle.foreign_theorems.proofs.Standing.{item_inj}
@@ -20,7 +23,7 @@ use Rattle.back_calculus.specs.Promises.{PartOnly}
 use Rattle.back_theorems.proofs.Main.{accepts-read}
 use Rattle.back.specs.Said.{SaidGate}
 use Rattle.back.specs.declared.gates.Gate.{Gate}
-use Rattle.back.specs.Gates.{or_none, net_here, AcceptedNet, OfParts, PartsTo, parts_or25, parts_end}
+use Rattle.back.specs.Gates.{or_none, net_here, AcceptedNet, OfParts, PartHere, PartsTo, parts_or25}
 
 -- ---- the netlist that stands in the bytes
 
@@ -33,6 +36,13 @@ here-bytes s a = a.accepts.bytes ∙ ap net_bytes (sym (here-is s a))
 
 here-fits : (s : List ℕ) → AcceptedNet s → All Fits (items_of (net_here s))
 here-fits s a = let b = a.accepts in subst (λ (m : Net). All Fits (items_of m)) (sym (here-is s a)) (items_fit b.net b.formed (omega (arith, b.few)) b.known)
+
+-- no wire comes from number 65,535
+pub from_low : (s : List ℕ) → AcceptedNet s → All (λ w. w.from < 65535) (net_here s).wires
+from_low s a =
+    let b = a.accepts in
+    subst (λ (m : Net). All (λ w. w.from < 65535) m.wires) (sym (here-is s a))
+    (all_map (λ w. T (is_out b.net.elements w.from)) (λ w. w.from < 65535) (λ w t. omega (arith, out_high b.net.elements 0 b.formed.end w.from b.formed.rising t, b.few)) b.net.wires b.formed.from)
 
 module _ (s : List ℕ) (a : AcceptedNet s) where
   abbrev es : List Element
@@ -64,7 +74,7 @@ NotElement (item (element e)) = ⊥
 NotElement (item (wire w)) = Unit {0}
 NotElement (item (pin t)) = Unit {0}
 NotElement ended = Unit {0}
-NotElement broken = Unit {0}
+NotElement broken = ⊥
 
 abbrev pub NotWire : Front → Type 0
 NotWire (item (element e)) = Unit {0}
@@ -80,6 +90,13 @@ NotPart (item (wire w)) = Unit {0}
 NotPart (item (pin t)) = Unit {0}
 NotPart ended = Unit {0}
 NotPart broken = Unit {0}
+
+pub wire_or : (f : Front) → ((from to : ℕ) → f ≡ item (wire (wire_of from to)) → ⊥) → NotWire f
+wire_or (item (element e)) h = tt
+wire_or (item (wire w)) h = h w.from w.to refl
+wire_or (item (pin t)) h = tt
+wire_or ended h = tt
+wire_or broken h = tt
 
 nothing-here : (s : List ℕ) (at : ℕ) → drop at s ≡ [] → item_at s at ≡ ended
 nothing-here s at e = ends-here s at (omega (arith, ap length e, length-drop at s))
@@ -131,31 +148,38 @@ module _ (s : List ℕ) (a : AcceptedNet s) (n : ℕ) where
             low = let w : 4 * n + 4 ≤ length s = within s (item_bytes (element (part q j))) _ (4 * n) g (omega arith) in omega arith;
           }
 
-  -- no part: a point, or the end of the elements
-  pub parts-done : PartsLeft s n → NotPart (item_at s (4 * n)) → parts_end (item_at s (4 * n)) n (4 * n) ≡ parts_or25 (net_here s).elements
-  parts-done l v = by l.left l.here l.fits l.count l.same
+  -- a point
+  pub parts-point : PartsLeft s n → (i : ℕ) → item_at s (4 * n) ≡ item (element (point i)) → refuse 25 (4 * n) ≡ parts_or25 (net_here s).elements
+  parts-point l i e = by l.left l.here l.fits l.same
     where
-      ends : (f : Front) → NotElement f → n ≡ length (net_here s).elements → parts_end f n (4 * n) ≡ good (parts_to (length (net_here s).elements))
-      ends (item (element e)) x c = absurd x
-      ends (item (wire w)) x c = ap (λ (k : ℕ). good (parts_to k)) c
-      ends (item (pin t)) x c = ap (λ (k : ℕ). good (parts_to k)) c
-      ends ended x c = ap (λ (k : ℕ). good (parts_to k)) c
-      ends broken x c = ap (λ (k : ℕ). good (parts_to k)) c
+      by : (left : List Element) → drop (4 * n) s ≡ element_bytes left ++ (wire_bytes (net_here s).wires ++ pin_bytes (net_here s).pins) → All Fits (map element left)
+          → no_point left (4 * n) ≡ no_point (net_here s).elements 0 → refuse 25 (4 * n) ≡ parts_or25 (net_here s).elements
+      by [] h f z = absurd (subst NotElement e (tail-front s (4 * n) (net_here s).wires (net_here s).pins (wire-fits s a) (pin-fits s a) h))
+      by (point j ∷ left) h f z = ap (λ (x : Answer (Unit {0})). x >>= λ _. good (parts_to (length (net_here s).elements))) z
+      by (part q j ∷ left) h f z = absurd (subst NotPart (sym e ∙ item_here s _ (4 * n) (element (part q j)) f.0 (h ∙ append_assoc (item_bytes (element (part q j))) (element_bytes left) _)) tt)
 
+  -- the end of the elements
+  pub parts-over : PartsLeft s n → ((i : ℕ) → item_at s (4 * n) ≡ item (element (point i)) → ⊥) → ((p i : ℕ) → item_at s (4 * n) ≡ item (element (part p i)) → ⊥) → good (parts_to n) ≡ parts_or25 (net_here s).elements
+  parts-over l u v = by l.left l.here l.fits l.count l.same
+    where
       by : (left : List Element) → drop (4 * n) s ≡ element_bytes left ++ (wire_bytes (net_here s).wires ++ pin_bytes (net_here s).pins) → All Fits (map element left) → n + length left ≡ length (net_here s).elements
-          → no_point left (4 * n) ≡ no_point (net_here s).elements 0 → parts_end (item_at s (4 * n)) n (4 * n) ≡ parts_or25 (net_here s).elements
+          → no_point left (4 * n) ≡ no_point (net_here s).elements 0 → good (parts_to n) ≡ parts_or25 (net_here s).elements
       by [] h f c z =
-          ends (item_at s (4 * n)) (tail-front s (4 * n) (net_here s).wires (net_here s).pins (wire-fits s a) (pin-fits s a) h) (let d : n + 0 ≡ length (net_here s).elements = c in omega arith)
-          ∙ ap (λ (x : Answer (Unit {0})). x >>= λ _. good (parts_to (length (net_here s).elements))) z
-      by (point j ∷ left) h f c z =
-          ap (λ (x : Front). parts_end x n (4 * n)) (item_here s _ (4 * n) (element (point j)) f.0 (h ∙ append_assoc (item_bytes (element (point j))) (element_bytes left) _))
-          ∙ ap (λ (x : Answer (Unit {0})). x >>= λ _. good (parts_to (length (net_here s).elements))) z
-      by (part q j ∷ left) h f c z = absurd (subst NotPart (item_here s _ (4 * n) (element (part q j)) f.0 (h ∙ append_assoc (item_bytes (element (part q j))) (element_bytes left) _)) v)
+          let d : n ≡ length (net_here s).elements = let k : n + 0 ≡ length (net_here s).elements = c in omega arith in
+          ap (λ (k : ℕ). good (parts_to k)) d ∙ ap (λ (x : Answer (Unit {0})). x >>= λ _. good (parts_to (length (net_here s).elements))) z
+      by (point j ∷ left) h f c z = absurd (u j (item_here s _ (4 * n) (element (point j)) f.0 (h ∙ append_assoc (item_bytes (element (point j))) (element_bytes left) _)))
+      by (part q j ∷ left) h f c z = absurd (v q j (item_here s _ (4 * n) (element (part q j)) f.0 (h ∙ append_assoc (item_bytes (element (part q j))) (element_bytes left) _)))
 
-  pub parts-ended : PartsLeft s n → length s ≤ 4 * n → good (parts_to n) ≡ parts_or25 (net_here s).elements
-  parts-ended l h =
-      let e = ends-here s (4 * n) h in
-      sym (ap (λ (x : Front). parts_end x n (4 * n)) e) ∙ parts-done l (rw e tt)
+  -- a record stands here, or the end
+  pub parts_sound : PartsLeft s n → item_at s (4 * n) ≡ broken → ⊥
+  parts_sound l e = by l.left l.here l.fits
+    where
+      by : (left : List Element) → drop (4 * n) s ≡ element_bytes left ++ (wire_bytes (net_here s).wires ++ pin_bytes (net_here s).pins) → All Fits (map element left) → ⊥
+      by [] h f = subst NotElement e (tail-front s (4 * n) (net_here s).wires (net_here s).pins (wire-fits s a) (pin-fits s a) h)
+      by (x ∷ left) h f = no_item (sym e ∙ item_here s _ (4 * n) (element x) f.0 (h ∙ append_assoc (item_bytes (element x)) (element_bytes left) _))
+        where
+          no_item : broken ≡ item (element x) → ⊥
+          no_item q = let z : ◌≡◌ {A = ℕ} 0 1 = cc in omega arith
 
 -- ---- the part at a place
 
@@ -188,14 +212,12 @@ gate-place s n r at o h e g f = (element-inj (f.found_is ∙ ap (item_at s) e �
     element-inj q = cc
 
 -- what stands there is a part
-pub part-known : (s : List ℕ) (n r : ℕ) → OfParts s n → r < n → NotPart (item_at s (4 * r)) → ⊥
-part-known s n r o h v = at_part (net_here s).elements r o.parts (let c = o.count in omega arith) (subst NotPart (part_at_place s n r o h).0 v)
+pub part_stands : (s : List ℕ) (at : ℕ) → PartHere s at → (p : ℕ) × (i : ℕ) × (item_at s at ≡ item (element (part p i)))
+part_stands s at h = by (get_or (net_here s).elements h.r (point 0)) (all-at PartOnly (net_here s).elements h.r (point 0) h.of.parts (omega (arith, h.of.count, h.low))) (ap (item_at s) h.there ∙ (part_at_place s h.n h.r h.of h.low).0)
   where
-    at_part : (es : List Element) (r : ℕ) → All PartOnly es → r < length es → NotPart (item (element (get_or es r (point 0)))) → ⊥
-    at_part [] r o h v = omega arith
-    at_part (point i ∷ es) r o h v = o.0
-    at_part (part p i ∷ es) zero o h v = v
-    at_part (part p i ∷ es) (suc r) o h v = at_part es r o.1 (let l : suc r < suc (length es) = h in omega arith) v
+    by : (e : Element) → PartOnly e → item_at s at ≡ item (element e) → (p : ℕ) × (i : ℕ) × (item_at s at ≡ item (element (part p i)))
+    by (point i) o q = absurd o
+    by (part p i) o q = (p, i, q)
 
 -- ---- the wires
 
@@ -203,6 +225,7 @@ pub record WiresLeft (s : List ℕ) (at i : ℕ) : Type 0 where
   pub left : List Wire
   pub here : drop at s ≡ wire_bytes left ++ pin_bytes (net_here s).pins
   pub fits : All Fits (map wire left)
+  pub froms : All (λ w. w.from < 65535) left
   pub same : driver left i 65535 ≡ driver (net_here s).wires i 65535
   pub low : at ≤ length s
 
@@ -219,18 +242,18 @@ wires_first s n i o =
     let a = o.accepted in
     let p = elements_past (net_here s).elements s _ 0 o.parts (laid_out s a) (omega arith) in
     let z : 0 + 4 * length (net_here s).elements ≡ 4 * n = let c = o.count in omega arith in
-    record { left = (net_here s).wires; here = rw z at p.0; fits = wire-fits s a; same = refl; low = rw z at p.1 }
+    record { left = (net_here s).wires; here = rw z at p.0; fits = wire-fits s a; froms = from_low s a; same = refl; low = rw z at p.1 }
 
 module _ (s : List ℕ) (a : AcceptedNet s) (at i : ℕ) where
   -- a wire that stands here, and those behind it
   pub wires_more : WiresLeft s at i → (from to : ℕ) → item_at s at ≡ item (wire (record { from = from; to = to }))
-      → ((to ≡ i → from ≡ driver (net_here s).wires i 65535) × ((to ≡ i → ⊥) → WiresLeft s (at + 5) i)) × (at + 5 ≤ length s)
-  wires_more l from to e = by l.left l.here l.fits l.same
+      → ((to ≡ i → from ≡ driver (net_here s).wires i 65535) × ((to ≡ i → ⊥) → WiresLeft s (at + 5) i)) × (at + 5 ≤ length s) × (from < 65535)
+  wires_more l from to e = by l.left l.here l.fits l.froms l.same
     where
-      by : (left : List Wire) → drop at s ≡ wire_bytes left ++ pin_bytes (net_here s).pins → All Fits (map wire left) → driver left i 65535 ≡ driver (net_here s).wires i 65535
-          → ((to ≡ i → from ≡ driver (net_here s).wires i 65535) × ((to ≡ i → ⊥) → WiresLeft s (at + 5) i)) × (at + 5 ≤ length s)
-      by [] h f z = absurd (subst NotWire e (pins-front s at (net_here s).pins (pin-fits s a) h).1)
-      by (w ∷ left) h f z =
+      by : (left : List Wire) → drop at s ≡ wire_bytes left ++ pin_bytes (net_here s).pins → All Fits (map wire left) → All (λ w. w.from < 65535) left → driver left i 65535 ≡ driver (net_here s).wires i 65535
+          → ((to ≡ i → from ≡ driver (net_here s).wires i 65535) × ((to ≡ i → ⊥) → WiresLeft s (at + 5) i)) × (at + 5 ≤ length s) × (from < 65535)
+      by [] h f r z = absurd (subst NotWire e (pins-front s at (net_here s).pins (pin-fits s a) h).1)
+      by (w ∷ left) h f r z =
           let g : drop at s ≡ item_bytes (wire w) ++ (wire_bytes left ++ pin_bytes (net_here s).pins) = h ∙ append_assoc (item_bytes (wire w)) (wire_bytes left) _ in
           let q : w ≡ record { from = from; to = to } = let x = item_inj (sym (item_here s _ at (wire w) f.0 g) ∙ e) in cc in
           let qf : w.from ≡ from = ap (λ (v : Wire). v.from) q in
@@ -242,11 +265,13 @@ module _ (s : List ℕ) (a : AcceptedNet s) (at i : ℕ) where
                 left = left;
                 here = behind s (item_bytes (wire w)) _ at g;
                 fits = f.1;
+                froms = r.1;
                 same = sym (rw (ne_eqb w.to i (λ x. k (sym qt ∙ x)))) ∙ z;
                 low = room;
               }),
             ),
             room,
+            omega (arith, r.0, qf),
           )
 
   -- no wire stands here: all were passed

@@ -1,6 +1,5 @@
 pub mod RowLaws
 pub mod GateLaws
-pub mod RecordLaws
 pub mod SourceLaws
 pub mod TermLaws
 pub mod WriteLaws

@@ -1,9 +1,9 @@
 -- What a caller knows of the bytes of a netlist that was checked (document 02, L11). Assumes nothing.
 use Rattle.std.specs.Prelude.{ℕ, ◌+◌, ◌*◌, ◌<◌, ◌≤◌, ◌≡◌, Bool, List, [], ◌∷◌, length}
-use Rattle.calculus.specs.Answer.{Answer, good, refused, refuse, ◌>>=◌}
+use Rattle.calculus.specs.Answer.{Answer, good, refused, ◌>>=◌}
 use Rattle.calculus.specs.Terms.{part_at}
-use Rattle.calculus.specs.Net.{Element, point, part, Net, element, wire, pin}
-use Rattle.calculus.specs.NetRead.{Front, item, ended, broken, read_net}
+use Rattle.calculus.specs.Net.{Element, point, part, Net}
+use Rattle.calculus.specs.NetRead.{read_net}
 use Rattle.calculus.specs.Record.{All}
 use Rattle.foreign_calculus.specs.Foreign.{Accepts}
 use Rattle.back_calculus.specs.Back.{gates, open_ins}
@@ -53,15 +53,6 @@ abbrev pub parts_or25 : List Element → Answer PartsTo
 parts_or25 es = do
   _ ← no_point es 0
   good (record { parts = length es; wires = 4 * length es })
-
--- what stands behind n parts, at an offset, ends them
-abbrev pub parts_end : Front → ℕ → ℕ → Answer PartsTo
-parts_end (item (element (point i))) n at = refuse 25 at
-parts_end (item (element (part p i))) n at = good (record { parts = n; wires = at })
-parts_end (item (wire w)) n at = good (record { parts = n; wires = at })
-parts_end (item (pin t)) n at = good (record { parts = n; wires = at })
-parts_end ended n at = good (record { parts = n; wires = at })
-parts_end broken n at = good (record { parts = n; wires = at })
 
 -- the inputs of all elements
 abbrev pub input_total : List Element → ℕ

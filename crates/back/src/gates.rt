@@ -1,23 +1,23 @@
 // What the bytes of a netlist of parts say: its parts, and what drives their inputs. There are few, so each is looked for where it is asked,
 // by the reader from record to record.
-ghost use Rattle.std.specs.Prelude.{◌≡◌, ◌*◌, ◌≤◌, ◌<◌};
+ghost use Rattle.std.specs.Prelude.{◌≡◌, ◌*◌, ◌≤◌, ◌<◌, unwrap_or, IfSome};
 ghost use Rattle.calculus.specs.Lean.{driver as driverOf};
-ghost use Rattle.net_reader.specs.Said.{said_record};
 ghost use Rattle.back_calculus.specs.Back.{part_before, sources, undrivens};
-ghost use Rattle.back.specs.Gates.{net_here, AcceptedNet, OfParts, PartHere, WiresHere, parts_or25, parts_end, CountedNet};
+ghost use Rattle.back.specs.Gates.{net_here, AcceptedNet, OfParts, PartHere, WiresHere, parts_or25, CountedNet};
 ghost use Rattle.back.specs.Said.{said_parts, SaidGate};
 
-use net_reader::Record;
+use answers::{Reason, Refusal};
+use net_reader::{Record, Step};
 
-// As many parts and no point, with the offset behind them; or the offset of the first point.
-#[derive(Clone, Copy)]
-pub enum Parts {
-    All(usize, usize),
-    Point(usize),
+// How many parts a netlist without points has, and the offset after them.
+#[derive(Clone, Copy, Debug, PartialEq, Eq)]
+pub struct Parts {
+    pub count: usize,
+    pub wires: usize,
 }
 
 // A part and its first terminal, and where the reader stands next.
-#[derive(Clone, Copy)]
+#[derive(Clone, Copy, Debug, PartialEq, Eq)]
 pub struct Gate {
     pub part: u8,
     pub first: u16,
@@ -25,43 +25,28 @@ pub struct Gate {
 }
 
 // The undriven inputs, and all inputs.
-#[derive(Clone, Copy)]
+#[derive(Clone, Copy, Debug, PartialEq, Eq)]
 pub struct Counts {
     pub undriven: usize,
     pub inputs: usize,
 }
 
-// The record behind n parts, at an offset: a point, or the elements are at their end.
-fn behind(r: Record, n: usize, at: usize) -> Parts
-    ensures { said_parts result ≡ parts_end (said_record r) n at }
-{
-    match r {
-        Record::Point(_) => Parts::Point(at),
-        Record::Part(_, _) => Parts::All(n, at),
-        Record::Wire(_, _) => Parts::All(n, at),
-        Record::Pin(_) => Parts::All(n, at),
-        Record::End => Parts::All(n, at),
-        Record::Broken => Parts::All(n, at),
-    }
-}
-
-// The parts of a netlist.
-pub fn count_parts(net: &[u8]) -> Parts
+// The parts of a netlist; or refusal 25 at the first point.
+pub fn count_parts(net: &[u8]) -> Result<Parts, Refusal>
     requires { AcceptedNet net.now }
     ensures { said_parts result ≡ parts_or25 (net_here net.now).elements }
 {
-    let mut n: usize = 0;
+    let mut count: usize = 0;
     let mut at: usize = 0;
-    while at < net.len() {
-        let x = net_reader::read(net, at);
-        let found = x.found;
-        let Record::Part(_, _) = found else {
-            return behind(found, n, at);
-        };
-        n = n + 1;
-        at = x.past;
+    while let Some(step) = net_reader::read(net, at)? {
+        match step.found {
+            Record::Part(_, _) => count += 1,
+            Record::Point(_) => return Err(Reason::PointBack.at(at)),
+            Record::Wire(_, _) | Record::Pin(_) => break,
+        }
+        at = step.past;
     }
-    Parts::All(n, at)
+    Ok(Parts { count, wires: at })
 }
 
 // The part at an offset.
@@ -69,40 +54,42 @@ pub fn gate_at(net: &[u8], at: usize) -> Gate
     requires { PartHere net.now at }
     ensures { SaidGate result net.now at }
 {
-    let x = net_reader::read(net, at);
-    let found = x.found;
-    let Record::Part(part, first) = found else {
-        return Gate {
-            part: 0,
-            first: 0,
-            past: at,
-        };
+    let Ok(
+        Some(
+            Step {
+                found: Record::Part(part, first),
+                past,
+            },
+        ),
+    ) = net_reader::read(net, at)
+    else {
+        unreachable!()
     };
-    Gate {
-        part,
-        first,
-        past: x.past,
-    }
+    Gate { part, first, past }
 }
 
-// The output that drives an input; NONE where no wire does. The wires begin at an offset.
-pub fn driver(net: &[u8], wires: usize, i: usize) -> u16
+// The output that drives an input; none if no wire does. The wires begin at an offset.
+pub fn driver(net: &[u8], wires: usize, i: usize) -> Option<u16>
     requires { WiresHere net.now wires }
-    ensures { result ≡ driverOf (net_here net.now).wires i 65535 }
+    ensures driver { unwrap_or result 65535 ≡ driverOf (net_here net.now).wires i 65535 }
+    ensures low { IfSome result (λ d. d < 65535) }
 {
     let mut at = wires;
-    while at < net.len() {
-        let x = net_reader::read(net, at);
-        let found = x.found;
-        let Record::Wire(from, to) = found else {
-            return memory::NONE;
-        };
+    while let Ok(
+        Some(
+            Step {
+                found: Record::Wire(from, to),
+                past,
+            },
+        ),
+    ) = net_reader::read(net, at)
+    {
         if to as usize == i {
-            return from;
+            return Some(from);
         }
-        at = x.past;
+        at = past;
     }
-    memory::NONE
+    None
 }
 
 // How many parts stand before the one with an output.
@@ -110,14 +97,12 @@ pub fn part_before(net: &[u8], parts: usize, o: usize) -> usize
     requires { OfParts net.now parts }
     ensures { result ≡ part_before (net_here net.now).elements o }
 {
-    let mut r: usize = 0;
     let mut at: usize = 0;
-    while r < parts {
+    for r in 0..parts {
         let g = gate_at(net, at);
         if g.first as usize + netlist::inputs_of(g.part) as usize == o {
             return r;
         }
-        r = r + 1;
         at = g.past;
     }
     parts
@@ -128,10 +113,9 @@ fn open_at(net: &[u8], wires: usize, i: usize) -> usize
     requires { WiresHere net.now wires }
     ensures { result ≡ undrivens (sources (net_here net.now) 1 i 0) }
 {
-    if driver(net, wires, i) == memory::NONE {
-        1
-    } else {
-        0
+    match driver(net, wires, i) {
+        Some(_) => 0,
+        None => 1,
     }
 }
 
@@ -151,20 +135,18 @@ fn open_of(net: &[u8], wires: usize, first: usize, inputs: usize) -> usize
 }
 
 // The undriven inputs of all parts, and all inputs.
-pub fn count_inputs(net: &[u8], parts: usize, wires: usize) -> Counts
-    requires { OfParts net.now parts × (parts ≤ 16) × (wires ≡ 4 * parts) }
+pub fn count_inputs(net: &[u8], parts: Parts) -> Counts
+    requires { OfParts net.now parts.count × (parts.count ≤ 16) × (parts.wires ≡ 4 * parts.count) }
     ensures { CountedNet net.now result.undriven result.inputs }
 {
     let mut undriven: usize = 0;
     let mut inputs: usize = 0;
-    let mut r: usize = 0;
     let mut at: usize = 0;
-    while r < parts {
+    for _ in 0..parts.count {
         let g = gate_at(net, at);
         let n = netlist::inputs_of(g.part) as usize;
-        undriven = undriven + open_of(net, wires, g.first as usize, n);
-        inputs = inputs + n;
-        r = r + 1;
+        undriven += open_of(net, parts.wires, g.first as usize, n);
+        inputs += n;
         at = g.past;
     }
     Counts { undriven, inputs }

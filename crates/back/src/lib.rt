@@ -11,60 +11,56 @@ ghost use Rattle.back.specs.Gates.{net_here, AcceptedNet, OfParts, Limited, Coun
 ghost use Rattle.translator.specs.Said.{in_room, AnswerSays, called};
 ghost use Rattle.back.specs.Answered.{limit_answer, net_answer};
 
-use foreign::Verdict;
+use answers::{Reason, Refusal};
 use gates::{Counts, Parts};
-use translator::Answer;
+use write::Layout;
 
 // 17 where the output is shorter than the sheet; else the sheet is written.
-fn fitted(net: &[u8], out: &mut [u8], parts: usize, wires: usize, counts: Counts) -> Answer
-    requires { Limited net.now parts counts.undriven × CountedNet net.now counts.undriven counts.inputs × (wires ≡ 4 * parts) }
+fn fitted(net: &[u8], out: &mut [u8], parts: Parts, counts: Counts) -> Result<usize, Refusal>
+    requires { Limited net.now parts.count counts.undriven × CountedNet net.now counts.undriven counts.inputs × (parts.wires ≡ 4 * parts.count) }
     ensures { AnswerSays result out.old out.new (in_room (back_sheet (net_here net.now)) (length out.old)) }
 {
-    let undriven = counts.undriven;
-    let n = write::length(parts, undriven, counts.inputs);
+    let n = write::length(parts.count, counts.undriven, counts.inputs);
     if out.len() < n {
-        return translator::refused(17, n);
+        return Err(Reason::ShortOutput.at(n));
     }
-    write::sheet(net, out, parts, wires, undriven);
-    Answer::Written(n)
+    let undriven = counts.undriven;
+    write::sheet(net, out, Layout { parts, undriven });
+    Ok(n)
 }
 
 // 26 where there are too few or too many parts, or too many undriven inputs.
-fn limited(net: &[u8], out: &mut [u8], parts: usize, wires: usize) -> Answer
-    requires { OfParts net.now parts × (wires ≡ 4 * parts) }
+fn limited(net: &[u8], out: &mut [u8], parts: Parts) -> Result<usize, Refusal>
+    requires { OfParts net.now parts.count × (parts.wires ≡ 4 * parts.count) }
     ensures { AnswerSays result out.old out.new (limit_answer (net_here net.now) (length out.old)) }
 {
-    if parts == 0 {
-        return translator::refused(26, 0);
+    if parts.count == 0 {
+        return Err(Reason::WrongPartCount.at(0));
     }
-    if 16 < parts {
-        return translator::refused(26, 0);
+    if 16 < parts.count {
+        return Err(Reason::WrongPartCount.at(0));
     }
-    let counts = gates::count_inputs(net, parts, wires);
+    let counts = gates::count_inputs(net, parts);
     if 24 < counts.undriven {
-        return translator::refused(26, 0);
+        return Err(Reason::WrongPartCount.at(0));
     }
-    fitted(net, out, parts, wires, counts)
+    fitted(net, out, parts, counts)
 }
 
 // Of a netlist that has been checked: 25 for a point, then 26, then 17.
-fn returned(net: &[u8], out: &mut [u8]) -> Answer
+fn returned(net: &[u8], out: &mut [u8]) -> Result<usize, Refusal>
     requires { AcceptedNet net.now }
     ensures { AnswerSays result out.old out.new (net_answer (net_here net.now) (length out.old)) }
 {
-    match gates::count_parts(net) {
-        Parts::Point(at) => translator::refused(25, at),
-        Parts::All(n, wires) => limited(net, out, n, wires),
-    }
+    let parts = gates::count_parts(net)?;
+    limited(net, out, parts)
 }
 
 // The sheet of a netlist is written to the start of the output; or the netlist is refused, and the output stays. The check leaves the
 // working memory as every call does, and nothing after it looks there.
-pub fn back(net: &[u8], out: &mut [u8], work: &mut [u16], lean: bool) -> Answer
+pub fn back(net: &[u8], out: &mut [u8], work: &mut [u16], lean: bool) -> Result<usize, Refusal>
     ensures { called result out.new work.new ≡ back_call lean net.now out.old work.old }
 {
-    match foreign::check(net, work, lean) {
-        Verdict::Refused(number, place) => translator::refused(number, place),
-        Verdict::Accepted => returned(net, out),
-    }
+    foreign::check(net, work, lean)?;
+    returned(net, out)
 }

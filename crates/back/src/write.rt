@@ -9,9 +9,17 @@ ghost use Rattle.back.specs.Rows.{rows_up_to, product_row, arrow_row, function_r
 ghost use Rattle.back.specs.Room.{SourceRoom, SourcesRoom, PartRoom, PartsRoom, SheetRoom};
 
 use crate::gates;
+use crate::gates::Parts;
+
+// What is known of the netlist: its parts, and how many undriven inputs it has.
+#[derive(Clone, Copy, Debug, PartialEq, Eq)]
+pub struct Layout {
+    pub parts: Parts,
+    pub undriven: usize,
+}
 
 // Past what was written, the undriven inputs so far, and where the next part stands in the netlist.
-#[derive(Clone, Copy)]
+#[derive(Clone, Copy, Debug, PartialEq, Eq)]
 struct Next {
     at: usize,
     before: usize,
@@ -34,21 +42,12 @@ pub fn length(parts: usize, undriven: usize, inputs: usize) -> usize
     11 * parts + 1 + arrow_length(parts, undriven) + 2 * undriven + 3 * inputs
 }
 
-fn put_two(out: &mut [u8], at: usize, a: u8, b: u8)
-    requires { at + 2 ≤ length out.old }
-    ensures { out.new ≡ sets out.old at (a ∷ b ∷ []) }
+// A row, from an offset on.
+fn put(out: &mut [u8], at: usize, row: &[u8])
+    requires { at + length row.now ≤ length out.old }
+    ensures { out.new ≡ sets out.old at row.now }
 {
-    out[at] = a;
-    out[at + 1] = b;
-}
-
-fn put_three(out: &mut [u8], at: usize, a: u8, b: u8, c: u8)
-    requires { at + 3 ≤ length out.old }
-    ensures { out.new ≡ sets out.old at (a ∷ b ∷ c ∷ []) }
-{
-    out[at] = a;
-    out[at + 1] = b;
-    out[at + 2] = c;
+    out[at..at + row.len()].copy_from_slice(row);
 }
 
 // The type number of so many bits and one as pairs nested to the right.
@@ -64,20 +63,19 @@ fn put_base(out: &mut [u8])
     requires { 7 ≤ length out.old }
     ensures { out.new ≡ sets out.old 0 (table_bytes base) }
 {
-    out[0] = 0x01;
-    put_three(out, 1, 0x03, 0x00, 0x00);
-    put_three(out, 4, 0x03, 0x00, 0x01);
+    put(out, 0, &[0x01, 0x03, 0x00, 0x00, 0x03, 0x00, 0x01]);
 }
 
+// The loops of this function and of the three like it stay apart: one function that takes the row as a closure would need a contract for
+// each closure, and be no plainer.
+//
 // The products, smallest first.
 fn put_products(out: &mut [u8], from: usize, q: usize)
     requires { (q ≤ 16) × (from + 3 * q ≤ length out.old) }
     ensures { out.new ≡ sets out.old from (rows_up_to product_row q) }
 {
-    let mut j: usize = 0;
-    while j < q {
-        put_three(out, from + 3 * j, 0x02, 0x00, tuple(j) as u8);
-        j = j + 1;
+    for j in 0..q {
+        put(out, from + 3 * j, &[0x02, 0x00, tuple(j) as u8]);
     }
 }
 
@@ -86,10 +84,8 @@ fn put_arrows(out: &mut [u8], from: usize, t: usize, k: usize)
     requires { (t + k ≤ 255) × (from + 3 * k ≤ length out.old) }
     ensures { out.new ≡ sets out.old from (rows_up_to (arrow_row t) k) }
 {
-    let mut j: usize = 0;
-    while j < k {
-        put_three(out, from + 3 * j, 0x03, 0x00, (t + j) as u8);
-        j = j + 1;
+    for j in 0..k {
+        put(out, from + 3 * j, &[0x03, 0x00, (t + j) as u8]);
     }
 }
 
@@ -114,10 +110,8 @@ fn put_functions(out: &mut [u8], from: usize, top: usize, k: usize)
     requires { (k ≤ top) × (top ≤ 255) × (from + 2 * k ≤ length out.old) }
     ensures { out.new ≡ sets out.old from (rows_up_to (function_row top) k) }
 {
-    let mut j: usize = 0;
-    while j < k {
-        put_two(out, from + 2 * j, 0x13, (top - j) as u8);
-        j = j + 1;
+    for j in 0..k {
+        put(out, from + 2 * j, &[0x13, (top - j) as u8]);
     }
 }
 
@@ -126,10 +120,8 @@ fn put_projections(out: &mut [u8], from: usize, q: usize)
     requires { from + 3 * q ≤ length out.old }
     ensures { out.new ≡ sets out.old from (rows_up_to projection_row q) }
 {
-    let mut j: usize = 0;
-    while j < q {
-        put_three(out, from + 3 * j, 0x18, 0x11, 0x00);
-        j = j + 1;
+    for j in 0..q {
+        put(out, from + 3 * j, &[0x18, 0x11, 0x00]);
     }
 }
 
@@ -158,22 +150,20 @@ fn put_source(
     out: &mut [u8],
     at: usize,
     i: usize,
-    parts: usize,
-    wires: usize,
-    undriven: usize,
+    layout: Layout,
     before: usize,
 ) -> usize
-    requires { SourceRoom net.now (length out.old) at parts wires undriven before }
+    requires { SourceRoom net.now (length out.old) at layout.parts.count layout.parts.wires layout.undriven before }
     ensures { (result ≡ before + undrivens (sources (net_here net.now) 1 i before))
-        × (out.new ≡ sets out.old at (source_rows undriven (parts - 1) (sources (net_here net.now) 1 i before))) }
+        × (out.new ≡ sets out.old at (source_rows layout.undriven (layout.parts.count - 1) (sources (net_here net.now) 1 i before))) }
 {
-    let d = gates::driver(net, wires, i);
-    if d == memory::NONE {
-        put_two(out, at, 0x11, open_binder(parts, undriven, before));
+    let Some(d) = gates::driver(net, layout.parts.wires, i) else {
+        let binder = open_binder(layout.parts.count, layout.undriven, before);
+        put(out, at, &[0x11, binder]);
         return before + 1;
-    }
-    let r = gates::part_before(net, parts, d as usize);
-    put_two(out, at, 0x11, output_binder(parts, r));
+    };
+    let r = gates::part_before(net, layout.parts.count, d as usize);
+    put(out, at, &[0x11, output_binder(layout.parts.count, r)]);
     before
 }
 
@@ -184,23 +174,21 @@ fn put_sources(
     at: usize,
     first: usize,
     inputs: usize,
-    parts: usize,
-    wires: usize,
-    undriven: usize,
+    layout: Layout,
     before: usize,
 ) -> usize
-    requires { SourcesRoom net.now (length out.old) at first inputs parts wires undriven before }
+    requires { SourcesRoom net.now (length out.old) at first inputs layout.parts.count layout.parts.wires layout.undriven before }
     ensures { (result ≡ before + undrivens (sources (net_here net.now) inputs first before))
-        × (out.new ≡ sets out.old at (source_rows undriven (parts - 1) (sources (net_here net.now) inputs first before))) }
+        × (out.new ≡ sets out.old at (source_rows layout.undriven (layout.parts.count - 1) (sources (net_here net.now) inputs first before))) }
 {
     if inputs == 0 {
         return before;
     }
-    let one = put_source(net, out, at, first, parts, wires, undriven, before);
+    let one = put_source(net, out, at, first, layout, before);
     if inputs == 1 {
         return one;
     }
-    put_source(net, out, at + 2, first + 1, parts, wires, undriven, one)
+    put_source(net, out, at + 2, first + 1, layout, one)
 }
 
 // A pair, where more than one part is left; past it.
@@ -211,63 +199,33 @@ fn put_pair(out: &mut [u8], at: usize, left: usize) -> usize
     if left < 2 {
         return at;
     }
-    put_two(out, at, 0x17, tuple(left - 1) as u8);
+    put(out, at, &[0x17, tuple(left - 1) as u8]);
     at + 2
 }
 
-// As many applications as a part has inputs.
-fn put_applications(out: &mut [u8], from: usize, n: usize)
-    requires { from + n ≤ length out.old }
-    ensures { out.new ≡ sets out.old from (rows_up_to application_row n) }
-{
-    let mut j: usize = 0;
-    while j < n {
-        out[from + j] = 0x14;
-        j = j + 1;
-    }
-}
-
-// .. and its constant; past them.
+// As many applications as a part has inputs, and its constant; past them.
 fn put_head(out: &mut [u8], at: usize, part: u8, inputs: usize) -> usize
     requires { (inputs ≤ 2) × (at + inputs + 3 ≤ length out.old) }
     ensures { (result ≡ at + inputs + 3) × (out.new ≡ sets out.old at (head_row part inputs)) }
 {
-    put_applications(out, at, inputs);
-    put_three(out, at + inputs, 0x1A, part, inputs as u8);
+    out[at..at + inputs].fill(0x14);
+    put(out, at + inputs, &[0x1A, part, inputs as u8]);
     at + inputs + 3
 }
 
 // The part at a place, applied to its drivers: its record stands at `here.gate`, and it is written from `here.at` on.
-fn put_part(
-    net: &[u8],
-    out: &mut [u8],
-    here: Next,
-    r: usize,
-    parts: usize,
-    wires: usize,
-    undriven: usize,
-) -> Next
-    requires { PartRoom net.now (length out.old) here.at here.gate r parts wires undriven here.before }
-    ensures { (result.at ≡ here.at + length (gate_row undriven (parts - 1) (parts - r) (gate_of (net_here net.now) (get_or (net_here net.now).elements r (point 0)) here.before)))
+fn put_part(net: &[u8], out: &mut [u8], here: Next, r: usize, layout: Layout) -> Next
+    requires { PartRoom net.now (length out.old) here.at here.gate r layout.parts.count layout.parts.wires layout.undriven here.before }
+    ensures { (result.at ≡ here.at + length (gate_row layout.undriven (layout.parts.count - 1) (layout.parts.count - r) (gate_of (net_here net.now) (get_or (net_here net.now).elements r (point 0)) here.before)))
         × (result.before ≡ here.before + undrivens (gate_of (net_here net.now) (get_or (net_here net.now).elements r (point 0)) here.before).ins)
         × (result.gate ≡ here.gate + 4)
-        × (out.new ≡ sets out.old here.at (gate_row undriven (parts - 1) (parts - r) (gate_of (net_here net.now) (get_or (net_here net.now).elements r (point 0)) here.before))) }
+        × (out.new ≡ sets out.old here.at (gate_row layout.undriven (layout.parts.count - 1) (layout.parts.count - r) (gate_of (net_here net.now) (get_or (net_here net.now).elements r (point 0)) here.before))) }
 {
     let g = gates::gate_at(net, here.gate);
     let inputs = netlist::inputs_of(g.part) as usize;
-    let head = put_pair(out, here.at, parts - r);
+    let head = put_pair(out, here.at, layout.parts.count - r);
     let mid = put_head(out, head, g.part, inputs);
-    let then = put_sources(
-        net,
-        out,
-        mid,
-        g.first as usize,
-        inputs,
-        parts,
-        wires,
-        undriven,
-        here.before,
-    );
+    let then = put_sources(net, out, mid, g.first as usize, inputs, layout, here.before);
     let end = mid + 2 * inputs;
     Next {
         at: end,
@@ -277,33 +235,31 @@ fn put_part(
 }
 
 // All parts, as pairs nested to the right.
-fn put_parts(net: &[u8], out: &mut [u8], from: usize, parts: usize, wires: usize, undriven: usize)
-    requires { PartsRoom net.now (length out.old) from parts wires undriven }
-    ensures { out.new ≡ sets out.old from (term_bytes (tuple_term undriven (parts - 1) (gatesOf (net_here net.now)))) }
+fn put_parts(net: &[u8], out: &mut [u8], from: usize, layout: Layout)
+    requires { PartsRoom net.now (length out.old) from layout.parts.count layout.parts.wires layout.undriven }
+    ensures { out.new ≡ sets out.old from (term_bytes (tuple_term layout.undriven (layout.parts.count - 1) (gatesOf (net_here net.now)))) }
 {
     let mut next = Next {
         at: from,
         before: 0,
         gate: 0,
     };
-    let mut r: usize = 0;
-    while r < parts {
-        next = put_part(net, out, next, r, parts, wires, undriven);
-        r = r + 1;
+    for r in 0..layout.parts.count {
+        next = put_part(net, out, next, r, layout);
     }
 }
 
 // The whole sheet, from the start of the output.
-pub fn sheet(net: &[u8], out: &mut [u8], parts: usize, wires: usize, undriven: usize)
-    requires { SheetRoom net.now (length out.old) parts wires undriven }
+pub fn sheet(net: &[u8], out: &mut [u8], layout: Layout)
+    requires { SheetRoom net.now (length out.old) layout.parts.count layout.parts.wires layout.undriven }
     ensures { out.new ≡ sets out.old 0 (back_sheet (net_here net.now)) }
 {
-    let q = parts - 1;
+    let q = layout.parts.count - 1;
     let whole = tuple(q);
-    let functions = put_types(out, parts, undriven);
-    put_functions(out, functions, whole + undriven, undriven);
-    let at = functions + 2 * undriven;
-    put_two(out, at, 0x19, whole as u8);
+    let functions = put_types(out, layout.parts.count, layout.undriven);
+    put_functions(out, functions, whole + layout.undriven, layout.undriven);
+    let at = functions + 2 * layout.undriven;
+    put(out, at, &[0x19, whole as u8]);
     put_projections(out, at + 2, q);
-    put_parts(net, out, at + 2 + 3 * q, parts, wires, undriven);
+    put_parts(net, out, at + 2 + 3 * q, layout);
 }

@@ -7,13 +7,14 @@ use contract.Lifetimes.{Lfts}
 use denote.Triple.Clauses.{AtExit}
 use borrow.Fn.Kinds.{Dens, res_t, ended_of}
 use Rattle.translator.proofs.SaidLaws.{SameResult, same-call}
-use Rattle.translator.specs.declared.Answer as code
+use Rattle.std.specs.declared.result.Result.{Result}
+use Rattle.answers.specs.declared.Refusal.{Refusal}
 use Rattle.batch_calculus.specs.Batch.{Batch}
 use Rattle.batch.specs.Left.{left}
 use Rattle.batch.proofs.batch.Kinds as batch
 use Rattle.batch.proofs.batch.Reads as batch-reads
 
-same_left : (r q : code.Answer) (o o' p p' w w' : List ℕ) → left r o p w ≡ left q o' p' w' → SameResult r q o o' w w' × (p ≡ p')
+same_left : (r q : Result ℕ Refusal) (o o' p p' w w' : List ℕ) → left r o p w ≡ left q o' p' w' → SameResult r q o o' w w' × (p ≡ p')
 same_left r q o o' p p' w w' e =
     (same-call r q o o' w w' (ap (λ (b : Batch). record { said = b.said; out = b.out; work = b.work }) e), ap (λ (b : Batch). b.results) e)
 

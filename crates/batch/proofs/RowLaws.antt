@@ -10,7 +10,7 @@ use Rattle.calculus.specs.Answer.{Answer, good, refused}
 use Rattle.calculus.specs.Translate.{Call, said_of, out_of}
 use Rattle.export_calculus.specs.CardCall.{Wished, card_answer, card_call, wished_call}
 use Rattle.answers.specs.Word.{packed}
-use Rattle.translator.specs.declared.Answer.TheVariants as variant
+use Rattle.std.specs.declared.result.Result.TheVariants.{Ok}
 use Rattle.laws.proofs.Regions.{drop_past}
 use Rattle.translator.proofs.SaidLaws.{written_in}
 use Rattle.sheet_theorems.proofs.Judging.{Judged, value, refusal}
@@ -159,7 +159,7 @@ module _ {w : Wished} {s lengths out₀ results₀ work₀ out results work : Li
         going_more))))
 
 pub going_end : {w : Wished} {s lengths out₀ results₀ work₀ out results work : List ℕ} {at used k : ℕ} → RowsGoing w s lengths out₀ results₀ work₀ out results work at used k → k ≡ length lengths
-    → left (variant.Written used) out results work ≡ of_row results₀ (one_by_one w s lengths out₀ work₀)
+    → left (Ok used) out results work ≡ of_row results₀ (one_by_one w s lengths out₀ work₀)
 going_end {w} {s} {lengths} {out = out} {results = results} {work = work} {at = at} {used = used} {k = k} g e =
     let n : used ≡ used + 0 = omega arith in
     same_batch (ap good n) (sym (take-append-drop used out)) (sym (take-append-drop k results)) refl

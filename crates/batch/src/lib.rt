@@ -4,28 +4,19 @@
 ghost use Rattle.std.specs.Prelude.{◌≡◌, ◌<◌, ◌≤◌, eqb, length};
 ghost use Rattle.export_calculus.specs.CardCall.{wished_call};
 ghost use Rattle.translator.specs.Said.{said_answer};
-ghost use Rattle.translator.specs.declared.Answer.TheVariants as answer;
+ghost use Rattle.std.specs.declared.result.Result.TheVariants.{Ok};
 ghost use Rattle.translation.specs.Wished.{all_wish};
 ghost use Rattle.batch_calculus.specs.Batch.{used_by, sum, one_by_one, of_row, batch_call};
 ghost use Rattle.batch.specs.Left.{OneLeft, left};
 
+use answers::{Reason, Refusal};
 use translation::Wish;
-use translator::Answer;
-
-fn wide(x: u32) -> usize
-    ensures { result ≡ x }
-{
-    x as usize
-}
 
 // The bytes of its output that a call used.
-fn used_by(answer: Answer) -> usize
+fn used_by(answer: Result<usize, Refusal>) -> usize
     ensures { result ≡ used_by (said_answer answer) }
 {
-    match answer {
-        Answer::Written(n) => n,
-        Answer::Refused(_) => 0,
-    }
+    answer.unwrap_or(0)
 }
 
 // Whether lengths add up to so many bytes. What is left of the bytes is counted down: a sum of lengths could be too large.
@@ -33,14 +24,12 @@ fn adds_up(lengths: &[u32], bytes: usize) -> bool
     ensures { result ≡ eqb (sum lengths.now) bytes }
 {
     let mut rest = bytes;
-    let mut k: usize = 0;
-    while k < lengths.len() {
-        let size = wide(lengths[k]);
+    for length in lengths {
+        let size = *length as usize;
         if rest < size {
             return false;
         }
-        rest = rest - size;
-        k = k + 1;
+        rest -= size;
     }
     rest == 0
 }
@@ -72,17 +61,15 @@ fn each(
     wish: Wish,
 ) -> usize
     requires { (sum lengths.now ≡ length sheets.now) × (length lengths.now ≤ length results.old) }
-    ensures { left (answer.Written result) out.new results.new work.new
+    ensures { left (Ok result) out.new results.new work.new
         ≡ of_row results.old (one_by_one (all_wish wish) sheets.now lengths.now out.old work.old) }
 {
     let mut at: usize = 0;
     let mut used: usize = 0;
-    let mut k: usize = 0;
-    while k < lengths.len() {
-        let end = at + wide(lengths[k]);
-        used = used + one(&sheets[at..end], &mut out[used..], results, work, k, wish);
+    for (k, length) in lengths.iter().enumerate() {
+        let end = at + *length as usize;
+        used += one(&sheets[at..end], &mut out[used..], results, work, k, wish);
         at = end;
-        k = k + 1;
     }
     used
 }
@@ -97,16 +84,15 @@ pub fn batch(
     results: &mut [u64],
     work: &mut [u16],
     wish: Wish,
-) -> Answer
+) -> Result<usize, Refusal>
     ensures { left result out.new results.new work.new
         ≡ batch_call (all_wish wish) sheets.now lengths.now out.old results.old work.old }
 {
     if results.len() < lengths.len() {
-        return translator::refused(24, 0);
+        return Err(Reason::WrongBatch.at(0));
     }
-    if adds_up(lengths, sheets.len()) {
-        let used = each(sheets, lengths, out, results, work, wish);
-        return Answer::Written(used);
+    if !adds_up(lengths, sheets.len()) {
+        return Err(Reason::WrongBatch.at(0));
     }
-    translator::refused(24, 0)
+    Ok(each(sheets, lengths, out, results, work, wish))
 }

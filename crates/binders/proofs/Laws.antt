@@ -13,9 +13,9 @@ use Rattle.laws.proofs.Tests.{on_cond}
 use Rattle.calculus.specs.Answer.{refuse}
 use Rattle.calculus.specs.Walk.{Binder, shared, linear, Stack, under, use_shared, use_linear}
 use Rattle.binders.specs.declared.Binders.{Binders}
-use Rattle.binders.specs.declared.Use.{Use}
-use Rattle.binders.specs.declared.Use.TheVariants as use·
-use Rattle.binders.specs.Stacks.{bits_of, is_used, binder_of, stack_from, stack_of, no_binders, slot_of, shared_at, shared_use, linear_at, linear_use, said_use}
+use Rattle.std.specs.declared.result.Result.TheVariants.{Ok, Err}
+use Rattle.answers.specs.declared.Reason.{Reason}
+use Rattle.binders.specs.Stacks.{Use, bits_of, is_used, binder_of, stack_from, stack_of, no_binders, slot_of, shared_at, shared_use, linear_at, linear_use, said_use}
 
 -- the code's test of a mark
 pub mark-test : (u : ℕ) → not (eqb u 0) ≡ is_used u
@@ -65,8 +65,8 @@ linear_top t (suc s) zero st n = refl
 linear_top t (suc s) (suc u) st n = refl
 
 under_said : (v : Use) (b : Binder) (st : Stack) (n : ℕ) → said_use v (b ∷ st) n ≡ under b (said_use v st n)
-under_said (use·.Type t) b st n = refl
-under_said (use·.Refused number) b st n = refl
+under_said (Ok t) b st n = refl
+under_said (Err why) b st n = refl
 
 module _ (ts ss us : List ℕ) where
   -- ---- entering and leaving a scope
@@ -118,7 +118,7 @@ module _ (ts ss us : List ℕ) where
     pub shared-said : (n i : ℕ) → said_use (shared_use n i (binder_of (get_or ts (slot_of n i) 0) (get_or ss (slot_of n i) 0) 0)) (stack_from ts ss us n) place ≡ use_shared (stack_from ts ss us n) i place
     unfolding shared_use
     shared-said n i =
-        by_leb (λ (t : Bool). said_use (cond t (use·.Refused 10) (shared_at (binder_of (get_or ts (slot_of n i) 0) (get_or ss (slot_of n i) 0) 0))) (stack_from ts ss us n) place ≡ use_shared (stack_from ts ss us n) i place) n i
+        by_leb (λ (t : Bool). said_use (cond t (Err Reason.NotInScope) (shared_at (binder_of (get_or ts (slot_of n i) 0) (get_or ss (slot_of n i) 0) 0))) (stack_from ts ss us n) place ≡ use_shared (stack_from ts ss us n) i place) n i
         (λ h. shared_out n i h)
         (λ h. shared-in n i (slot_of n i) (slot_in n i h))
 
@@ -148,7 +148,7 @@ module _ (ts ss us : List ℕ) where
         → said_use (linear_use n i (binder_of (get_or ts (slot_of n i) 0) (get_or ss (slot_of n i) 0) (get_or us (slot_of n i) 0))) (stack_from ts ss (set us (slot_of n i) 1) n) place ≡ use_linear (stack_from ts ss us n) i place
     unfolding linear_use
     linear-said n i l =
-        by_leb (λ (t : Bool). said_use (cond t (use·.Refused 10) (linear_at (binder_of (get_or ts (slot_of n i) 0) (get_or ss (slot_of n i) 0) (get_or us (slot_of n i) 0)))) (stack_from ts ss (set us (slot_of n i) 1) n) place ≡ use_linear (stack_from ts ss us n) i place) n i
+        by_leb (λ (t : Bool). said_use (cond t (Err Reason.NotInScope) (linear_at (binder_of (get_or ts (slot_of n i) 0) (get_or ss (slot_of n i) 0) (get_or us (slot_of n i) 0)))) (stack_from ts ss (set us (slot_of n i) 1) n) place ≡ use_linear (stack_from ts ss us n) i place) n i
         (λ h. linear_out n i h)
         (λ h. linear-in n i (slot_of n i) (slot_in n i h) l)
 

@@ -1,10 +1,10 @@
 -- The binders of the code as the definitions have them, and what a use of a variable says. Assumes nothing.
-use Rattle.std.specs.Prelude.{ℕ, zero, suc, ◌+◌, ◌-◌, ◌*◌, ◌/◌, ◌%◌, Bool, true, false, cond, List, [], ◌∷◌, ◌++◌, leb, ltb, get_or, replicate}
+use Rattle.std.specs.Prelude.{ℕ, zero, suc, ◌+◌, ◌-◌, ◌*◌, ◌/◌, ◌%◌, Bool, true, false, cond, Result, Ok, Err, List, [], ◌∷◌, ◌++◌, leb, ltb, get_or, replicate}
 use Rattle.calculus.specs.Answer.{Answer, refuse}
 use Rattle.calculus.specs.Walk.{Binder, shared, linear, Stack, Found, found}
 use Rattle.binders.specs.declared.Binders.{Binders}
-use Rattle.binders.specs.declared.Use.{Use}
-use Rattle.binders.specs.declared.Use.TheVariants as use·
+use Rattle.answers.specs.declared.Reason.{Reason}
+use Rattle.answers.specs.Refusals.{reason_number}
 
 -- ---- numbers of 0 and 1, a bit each
 
@@ -53,24 +53,28 @@ no_binders = record { types = replicate 128 0; sorts = replicate 2 0; used = rep
 unfoldable pub slot_of : ℕ → ℕ → ℕ
 slot_of count i = cond (ltb i count) (count - 1 - i) 0
 
+-- what a leaf of the term gives: its type number, or why it is refused
+abbrev pub Use : Type 0
+Use = Result ℕ Reason
+
 -- a sharable variable, binder i of `count`: 10, 11
 abbrev pub shared_at : Binder → Use
-shared_at (shared t) = use·.Type t
-shared_at (linear t u) = use·.Refused 11
+shared_at (shared t) = Ok t
+shared_at (linear t u) = Err Reason.OtherSort
 
 unfoldable pub shared_use : ℕ → ℕ → Binder → Use
-shared_use count i b = cond (leb count i) (use·.Refused 10) (shared_at b)
+shared_use count i b = cond (leb count i) (Err Reason.NotInScope) (shared_at b)
 
 -- a linear one: 10, 11, 13
 abbrev pub linear_at : Binder → Use
-linear_at (shared t) = use·.Refused 11
-linear_at (linear t false) = use·.Type t
-linear_at (linear t true) = use·.Refused 13
+linear_at (shared t) = Err Reason.OtherSort
+linear_at (linear t false) = Ok t
+linear_at (linear t true) = Err Reason.UsedAgain
 
 unfoldable pub linear_use : ℕ → ℕ → Binder → Use
-linear_use count i b = cond (leb count i) (use·.Refused 10) (linear_at b)
+linear_use count i b = cond (leb count i) (Err Reason.NotInScope) (linear_at b)
 
 -- a type number with the binders, or a refusal at node n
 abbrev pub said_use : Use → Stack → ℕ → Answer Found
-said_use (use·.Type t) st n = found t st
-said_use (use·.Refused number) st n = refuse number n
+said_use (Ok t) st n = found t st
+said_use (Err why) st n = refuse (reason_number why) n

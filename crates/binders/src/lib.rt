@@ -1,13 +1,16 @@
 // The binders in scope: a struct by value, the nearest last. Binders of both sorts share one count.
-// The struct is large, so what has to be decided is decided on the numbers of one binder; who holds the struct stores in place.
+// The struct is large, and a level of the walk has little stack: so these are functions of the numbers of one binder and no methods, and
+// who holds the struct stores in place.
 #![tactic(auto)]
 
 ghost use Rattle.std.specs.Prelude.{◌≡◌, ◌<◌, get_or};
 ghost use Rattle.binders.specs.Stacks.{binary_digits, set_digit, bits_of, with_bit, binder_of, no_binders, slot_of, shared_use, linear_use};
 
+use answers::Reason;
+
 // For each binder in scope its type number, its sort (0 sharable, 1 linear), and for a linear one if it is used (0 or 1): sorts and
 // marks are a bit each, so that a level of the walk takes little stack.
-#[derive(Clone, Copy)]
+#[derive(Clone, Copy, Debug, PartialEq, Eq)]
 pub struct Binders {
     pub types: [u8; 128],
     pub sorts: [u64; 2],
@@ -15,13 +18,7 @@ pub struct Binders {
     pub count: usize,
 }
 
-// What a leaf of the term gives: its type number, or the number of a refusal.
-#[derive(Clone, Copy)]
-pub enum Use {
-    Type(u8),
-    Refused(u8),
-}
-
+// No binder is in scope.
 pub fn none() -> Binders
     ensures { result ≡ no_binders }
 {
@@ -40,33 +37,33 @@ pub fn slot(count: usize, i: usize) -> usize
     if i < count { count - 1 - i } else { 0 }
 }
 
-// A sharable variable is used, binder i of `count`, by its type and sort: 10, 11.
-pub fn use_shared(count: usize, i: usize, ty: u8, sort: u8) -> Use
+// A sharable variable is used, binder i of `count`, by its type and sort: its type, or refusal 10 or 11.
+pub fn use_shared(count: usize, i: usize, ty: u8, sort: u8) -> Result<u8, Reason>
     ensures { result ≡ shared_use count i (binder_of ty sort 0) }
 {
     if count <= i {
-        return Use::Refused(10);
+        return Err(Reason::NotInScope);
     }
     if sort != 0 {
-        return Use::Refused(11);
+        return Err(Reason::OtherSort);
     }
-    Use::Type(ty)
+    Ok(ty)
 }
 
-// A linear variable is used, binder i of `count`, by its type, sort and mark: 10, 11, 13. The user marks it.
-pub fn use_linear(count: usize, i: usize, ty: u8, sort: u8, mark: u8) -> Use
+// A linear variable is used, binder i of `count`, by its type, sort and mark: its type, or refusal 10, 11 or 13. The caller marks it.
+pub fn use_linear(count: usize, i: usize, ty: u8, sort: u8, mark: u8) -> Result<u8, Reason>
     ensures { result ≡ linear_use count i (binder_of ty sort mark) }
 {
     if count <= i {
-        return Use::Refused(10);
+        return Err(Reason::NotInScope);
     }
     if sort == 0 {
-        return Use::Refused(11);
+        return Err(Reason::OtherSort);
     }
     if mark != 0 {
-        return Use::Refused(13);
+        return Err(Reason::UsedAgain);
     }
-    Use::Type(ty)
+    Ok(ty)
 }
 
 // ---- sorts and marks, a bit each

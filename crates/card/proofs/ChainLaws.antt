@@ -1,5 +1,5 @@
 -- In a sheet that is read, the rule by type numbers is the rule by types; and one step of the search. Assumes nothing.
-use Prim.Native.Nat.{ℕ, zero, suc, ◌-◌, ◌<◌, ◌≤◌}
+use Prim.Native.Nat.{ℕ, zero, suc, ◌+◌, ◌-◌, ◌<◌, ◌≤◌}
 use mathlib.Core.Path.{◌≡◌, refl, sym, ap, ◌∙◌}
 use mathlib.Core.Bool.{false, ◌&&◌}
 use mathlib.Core.List.{List}
@@ -42,3 +42,9 @@ pub chain-step : (s : List ℕ) (more t : ℕ) (r : TyRec) → 0 < more → r �
 unfolding chain_in
 chain-step s zero t r d e = absurd (omega arith)
 chain-step s (suc more) t r d e = let z : suc more - 1 ≡ more = omega arith in rw (e, z)
+
+-- .. as the steps are counted up
+pub chain-up : (s : List ℕ) (i t : ℕ) (r : TyRec) → i < 256 → r ≡ rec_in s t → chain_by r (λ b. chain_in s (256 - (i + 1)) b) ≡ chain_in s (256 - i) t
+chain-up s i t r h e =
+    let n : 256 - (i + 1) ≡ 256 - i - 1 = omega arith in
+    ap (λ (m : ℕ). chain_by r (λ b. chain_in s m b)) n ∙ chain-step s (256 - i) t r (omega arith) e

@@ -6,7 +6,7 @@ use mathlib.Core.List.{List, [], ◌∷◌, ◌++◌, map, map-append}
 use native.Mathlib.Omega.{arith}
 use native.Mathlib.Numerals.{add-one}
 use native.Mathlib.Decide.{ℕ_discrete, dec_le}
-use lib.Dec.{T, eqb, leb, ltb}
+use lib.Dec.{eqb, leb, ltb}
 use lib.ListN.{length, get_or, set, drop, length-drop, length-set}
 use lib.Seq.{ext_get_or, get_or-set_same, get_or-set_other, take-suc, get_or-drop}
 use borrow.Author.Tests.{ne_eqb, eq-eqb, lt-ltb, le-ltb, le-leb, lt-leb}
@@ -22,8 +22,9 @@ use Rattle.lean.proofs.DriverLaws.{output-below, driver_out}
 use Rattle.lean.proofs.EntryLaws.{source_out, pin_out, lean_free}
 use Rattle.lean.proofs.Rows.{row_more}
 use Rattle.lean.proofs.MakeLaws.{element_input, element_left, element_here, wire-none, wire-output, wire-here}
+use Rattle.std.specs.Prelude.{Some, None}
 use Rattle.card.specs.Rings.{answer_of}
-use Rattle.card.specs.Marks.{read_mark, mark_wire, mark_pin, Free, Markable, MarkedWhere, unread_at, unread_from, without_mark, Cleaned}
+use Rattle.card.specs.Marks.{read_mark, mark_wire, mark_pin, Free, Markable, MarkedWhere, unread_at, unread_from, place_of, without_mark, Cleaned}
 
 or_none_lem : (b : Bool) → (b || false) ≡ b
 or_none_lem true = refl
@@ -47,9 +48,6 @@ pins_append (out o ∷ xs) ys j = by (eqb o j) (pins_append xs ys j)
     by false e = e
 
 -- ---- marks
-
-pub marked-none : (w : List ℕ) (end : ℕ) → MarkedWhere w end (λ j. false) w
-marked-none w end = record { size = refl; low = λ j l. refl; high = λ j l. refl; free = λ j e. absurd (subst T (sym e) tt) }
 
 pub marked-same : {w w' : List ℕ} {end : ℕ} {P Q : ℕ → Bool} → ((j : ℕ) → P j ≡ Q j) → MarkedWhere w end P w' → MarkedWhere w end Q w'
 marked-same {w} h m = record {
@@ -189,18 +187,18 @@ module _ (w : List ℕ) (end pins : ℕ) (p : Markable w end pins) where
         all false = refl
 
     skip : (x c : ℕ) (es : List Element) → es ≡ [] → (leb kinds_from (entry w x) && ltb (entry w x) (kinds_from + 7)) ≡ false
-        → test (row_in element_at roots_at w c (x + 1)) ≡ answer_of 29 (unread_from w' c (x + 1)) → test (es ++ row_in element_at roots_at w c (x + 1)) ≡ answer_of 29 (cond (unread_at w' x) x (unread_from w' c (x + 1)))
+        → test (row_in element_at roots_at w c (x + 1)) ≡ answer_of 29 (place_of (unread_from w' c (x + 1))) → test (es ++ row_in element_at roots_at w c (x + 1)) ≡ answer_of 29 (place_of (cond (unread_at w' x) x (unread_from w' c (x + 1))))
     skip x c es e h next = rw (e, other_at x h) next
 
-    read-test : (x i k : ℕ) (es : List Element) (rest : ℕ) → i + (part_at k).inputs ≡ x → x < 8192 → test es ≡ answer_of 29 rest → test (part k i ∷ es) ≡ answer_of 29 (cond (not (Read pins x)) x rest)
+    read-test : (x i k : ℕ) (es : List Element) (rest : ℕ) → i + (part_at k).inputs ≡ x → x < 8192 → test es ≡ answer_of 29 (place_of rest) → test (part k i ∷ es) ≡ answer_of 29 (place_of (cond (not (Read pins x)) x rest))
     unfolding lean_in
     read-test x i k es rest e l next = rw e (by (Read pins x) refl)
       where
-        by : (b : Bool) → Read pins x ≡ b → (need b 29 x >>= λ _. test es) ≡ answer_of 29 (cond (not b) x rest)
+        by : (b : Bool) → Read pins x ≡ b → (need b 29 x >>= λ _. test es) ≡ answer_of 29 (place_of (cond (not b) x rest))
         by true z = next
         by false z = rw (lt-ltb x 8192 l)
 
-    search : (c x : ℕ) → x + c ≤ end → test (row_in element_at roots_at w c x) ≡ answer_of 29 (unread_from w' c x)
+    search : (c x : ℕ) → x + c ≤ end → test (row_in element_at roots_at w c x) ≡ answer_of 29 (place_of (unread_from w' c x))
     search zero x h = refl
     search (suc c) x h =
         let v = entry w x in
@@ -226,7 +224,7 @@ module _ (w : List ℕ) (end pins : ℕ) (p : Markable w end pins) where
         late : {v : ℕ} → kinds_from ≤ v → kinds_from + 7 ≤ v → (leb kinds_from v && ltb v (kinds_from + 7)) ≡ false
         late {v} a g = ap (λ (b : Bool). b && ltb v (kinds_from + 7)) (le-leb kinds_from v a) ∙ le-ltb v (kinds_from + 7) g
 
-    pub unread-answer : need_all (is_read (lean_in w end pins)) 29 output_place (lean_in w end pins).elements ≡ answer_of 29 (unread_from w' end 0)
+    pub unread-answer : need_all (is_read (lean_in w end pins)) 29 output_place (lean_in w end pins).elements ≡ answer_of 29 (place_of (unread_from w' end 0))
     unfolding lean_in
     unread-answer = search end 0 (omega arith)
 
@@ -255,6 +253,13 @@ module _ (w : List ℕ) (end pins : ℕ) (p : Markable w end pins) where
 
 -- ---- one terminal after the other loses its mark, and the lowest that nobody reads is known
 
+-- the place that is found, and that there is none
+pub there : (n : ℕ) → n < 8192 → place_of n ≡ Some n
+there n h = ap (λ (b : Bool). cond b (Some n) None) (lt-ltb n 8192 h)
+
+pub nowhere : (n : ℕ) → 8192 ≤ n → place_of n ≡ None
+nowhere n h = ap (λ (b : Bool). cond b (Some n) None) (le-ltb n 8192 h)
+
 abbrev LowSoFar : List ℕ → ℕ → ℕ → ℕ → Type 0
 LowSoFar w end x low = cond (ltb low 8192) low (unread_from w (end - x) x) ≡ unread_from w end 0
 
@@ -263,23 +268,6 @@ pub record Cleaning (w : List ℕ) (end x low : ℕ) (u : List ℕ) : Type 0 whe
   pub below : low ≤ 8192
   pub found : low < 8192 → low < x
   pub so_far : LowSoFar w end x low
-
-pub cleaning_start : (w : List ℕ) (end : ℕ) → Cleaning w end 0 8192 w
-cleaning_start w end = record {
-  clean = record { size = refl; done = λ j l. absurd (omega arith); rest = λ j l. refl };
-  below = omega arith;
-  found = λ h. absurd (omega arith);
-  so_far = let e : end - 0 ≡ end = omega arith in ap (λ (c : ℕ). unread_from w c 0) e;
-}
-
-pub cleaning_end : {w u : List ℕ} {end x low : ℕ} → x ≤ end → end ≤ x → Cleaning w end x low u → (low ≡ unread_from w end 0) × Cleaned w end u
-cleaning_end {w} {u} {end} {x} {low} g h c = (
-  elim (dec_le 8192 low) [
-    | yes l ↦ (let b = c.below in let z : low ≡ 8192 = omega arith in let e : end - x ≡ 0 = omega arith in z ∙ sym (ap (λ (b : Bool). cond b low 8192) (le-ltb low 8192 l)) ∙ ap (λ (n : ℕ). cond (ltb low 8192) low (unread_from w n x)) (sym e) ∙ c.so_far)
-    | no l ↦ sym (ap (λ (b : Bool). cond b low (unread_from w (end - x) x)) (lt-ltb low 8192 (omega arith))) ∙ c.so_far
-  ],
-  (let e : x ≡ end = omega arith in subst (λ (n : ℕ). Cleaned w n u) e c.clean),
-)
 
 -- the lower of two, where the first is x or none
 lower-is : (b : Bool) (x low : ℕ) → x < 8192 → low ≤ 8192 → (low < 8192 → low < x) → cond (ltb (cond b x 8192) low) (cond b x 8192) low ≡ cond (ltb low 8192) low (cond b x low)

@@ -1,6 +1,6 @@
 -- Marks at the outputs that the lean netlist in the working memory reads. A mark stands in the table of drivers, at the output's own number:
 -- no wire goes to an output, so that nothing else stands there but 65,535. Assumes nothing.
-use Rattle.std.specs.Prelude.{ℕ, zero, suc, ◌+◌, ◌-◌, ◌/◌, ◌%◌, ◌≤◌, ◌<◌, ◌≡◌, Bool, true, not, ◌&&◌, ◌||◌, cond, List, map, eqb, leb, ltb, length, get_or, set}
+use Rattle.std.specs.Prelude.{ℕ, zero, suc, ◌+◌, ◌-◌, ◌/◌, ◌%◌, ◌≤◌, ◌<◌, ◌≡◌, Bool, true, not, ◌&&◌, ◌||◌, cond, Option, Some, None, List, map, eqb, leb, ltb, length, get_or, set}
 use Rattle.export_calculus.specs.Card.{drives, is_out_pin}
 use Rattle.memory.specs.Map.{roots_at, region, terminal_of}
 use Rattle.lean.specs.Table.{entry}
@@ -56,6 +56,10 @@ unread_at w x = unread_by (get_or w x 0) (entry w x)
 abbrev pub unread_from : List ℕ → ℕ → ℕ → ℕ
 unread_from w zero x = 8192
 unread_from w (suc c) x = cond (unread_at w x) x (unread_from w c (x + 1))
+
+-- the terminal that is found; 8,192 is none
+abbrev pub place_of : ℕ → Option ℕ
+place_of n = cond (ltb n 8192) (Some n) None
 
 -- without its mark
 abbrev pub without_mark : ℕ → ℕ

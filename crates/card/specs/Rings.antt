@@ -1,5 +1,5 @@
 -- The kept ring points of the lean netlist that stands in the working memory by terminal. Assumes nothing.
-use Rattle.std.specs.Prelude.{ℕ, zero, suc, ◌+◌, ◌-◌, ◌≤◌, ◌<◌, ◌≡◌, Bool, false, not, ◌&&◌, cond, List, eqb, ltb}
+use Rattle.std.specs.Prelude.{ℕ, zero, suc, ◌+◌, ◌-◌, ◌≤◌, ◌<◌, ◌≡◌, Bool, false, not, ◌&&◌, cond, Option, Some, None, List, eqb}
 use Rattle.calculus.specs.Answer.{Answer, good, refuse}
 use Rattle.lean.specs.Table.{entry}
 use Rattle.lean.specs.Layout.{kinds_from}
@@ -15,11 +15,12 @@ ring_at w x = ring_by (entry w x) (entry w (x - 1))
 abbrev pub RingFree : List ℕ → ℕ → ℕ → Type 0
 RingFree w x y = (o : ℕ) → x ≤ o → o < y → ring_at w o ≡ false
 
--- the input of the first, among c outputs from x on; 8,192 where there is none
-abbrev pub lowest_from : List ℕ → ℕ → ℕ → ℕ
-lowest_from w zero x = 8192
-lowest_from w (suc c) x = cond (ring_at w x) (x - 1) (lowest_from w c (x + 1))
+-- the input of the first, among c outputs from x on
+abbrev pub lowest_from : List ℕ → ℕ → ℕ → Option ℕ
+lowest_from w zero x = None
+lowest_from w (suc c) x = cond (ring_at w x) (Some (x - 1)) (lowest_from w c (x + 1))
 
--- refused at a terminal; 8,192 is none
-abbrev pub answer_of : ℕ → ℕ → Answer (Unit {0})
-answer_of number place = cond (ltb place 8192) (refuse number place) (good tt)
+-- refused at a terminal, where there is one
+abbrev pub answer_of : ℕ → Option ℕ → Answer (Unit {0})
+answer_of number None = good tt
+answer_of number (Some place) = refuse number place

@@ -9,23 +9,12 @@ pub fn is_chain(records: &[u8], root: u8) -> bool
     ensures { result ≡ chain_in records.now 256 root }
 {
     let mut t = root;
-    let mut more: usize = 256;
-    while more > 0 {
+    for _ in 0..256usize {
         match records::type_at(records, t) {
-            Form::Bit => {
-                return true;
-            }
-            Form::Product(_, _) => {
-                return true;
-            }
-            Form::Linear(_, _) => {
-                return false;
-            }
-            Form::Arrow(_, right) => {
-                t = right;
-            }
+            Form::Bit | Form::Product(_, _) => return true,
+            Form::Linear(_, _) => return false,
+            Form::Arrow(_, right) => t = right,
         }
-        more = more - 1;
     }
     false
 }

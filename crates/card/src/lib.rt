@@ -14,41 +14,44 @@ ghost use Rattle.card.specs.Rings.{answer_of};
 ghost use Rattle.card.specs.Judged.{said_judged};
 ghost use Rattle.card.specs.Marks.{Markable};
 
-// The profile passes, or a refusal: its number and its place.
-#[derive(Clone, Copy)]
-pub enum Judged {
-    Passes,
-    Refused(u8, usize),
-}
+use answers::{Reason, Refusal};
 
-// The lowest part's output that drives no wire and is no pin; 8,192 where there is none. The working memory stays.
-fn unread(work: &mut [u16], end: usize, pins: usize) -> usize
+// The lowest part's output that drives no wire and is no pin. The working memory stays.
+fn unread(work: &mut [u16], end: usize, pins: usize) -> Option<usize>
     requires { Markable work.old end pins }
     ensures { (need_all (is_read (lean_in work.old end pins)) 29 output_place (lean_in work.old end pins).elements ≡ answer_of 29 result)
         × (work.new ≡ work.old) }
 {
     mark::mark_wires(work, end, pins);
     mark::mark_pins(work, end, pins);
-    let lowest = mark::clean(work, end);
-    lowest as usize
+    let lowest = mark::clean(work, end) as usize;
+    if lowest < memory::TERMINALS {
+        Some(lowest)
+    } else {
+        None
+    }
 }
 
-// The profile's answer, 27 before 28 before 29; the netlist is not looked at where the root's type is refused. The working memory stays.
-pub fn judge(records: &[u8], root: u8, work: &mut [u16], end: usize, pins: usize) -> Judged
+// Whether the profile passes: 27 before 28 before 29; the netlist is not looked at where the root's type is refused. The working memory stays.
+pub fn judge(
+    records: &[u8],
+    root: u8,
+    work: &mut [u16],
+    end: usize,
+    pins: usize,
+) -> Result<(), Refusal>
     requires { Markable work.old end pins }
     ensures { (said_judged result ≡ profiled (chain_in records.now 256 root) (lean_in work.old end pins))
         × (work.new ≡ work.old) }
 {
     if !chain::is_chain(records, root) {
-        return Judged::Refused(27, 0);
+        return Err(Reason::RootNoChain.at(0));
     }
-    let ring = rings::lowest(&work[..], end, pins);
-    if ring < memory::TERMINALS {
-        return Judged::Refused(28, ring);
+    if let Some(place) = rings::lowest(&work[..], end, pins) {
+        return Err(Reason::CardRing.at(place));
     }
-    let lowest = unread(work, end, pins);
-    if lowest < memory::TERMINALS {
-        return Judged::Refused(29, lowest);
+    if let Some(place) = unread(work, end, pins) {
+        return Err(Reason::UnreadOutput.at(place));
     }
-    Judged::Passes
+    Ok(())
 }

@@ -56,11 +56,9 @@ pub fn mark_pins(work: &mut [u16], end: usize, pins: usize)
     requires { WiresMarked work.old end pins }
     ensures { PinsMarked work.old end pins work.new }
 {
-    let mut i: usize = 0;
-    while i < pins {
+    for i in 0..pins {
         let code = work[PINS + i];
         mark_pin(work, code);
-        i = i + 1;
     }
 }
 
@@ -93,19 +91,17 @@ fn without_mark(m: u16) -> u16
 }
 
 // All terminals: the lowest that nobody reads, 8,192 for none; the marks are taken away. Without a way out before the end and without branches, so
-// that the compiler takes several terminals at once: the ways out of `place_of` have no effects.
+// that the compiler takes several terminals at once: the ways out of `place_of` have no effects. So the lowest is a number, and no `Option`.
 pub fn clean(work: &mut [u16], end: usize) -> u16
     requires { (memory_size ≤ length work.old) × (end ≤ 8192) }
     ensures { (result ≡ unread_from work.old end 0) × Cleaned work.old end work.new }
 {
     let mut lowest = NOWHERE;
-    let mut x: usize = 0;
-    while x < end {
+    for x in 0..end {
         let m = work[x];
         let v = work[LEAN + x];
         lowest = lower(place_of(m, v, x as u16), lowest);
         work[x] = without_mark(m);
-        x = x + 1;
     }
     lowest
 }

@@ -4,7 +4,7 @@ ghost use Rattle.lean.specs.Layout.{LeanReady};
 ghost use Rattle.card.specs.Rings.{ring_by, ring_at, lowest_from, RingFree};
 
 use lean::{KIND, LEAN};
-use memory::{POINT, TERMINALS};
+use memory::POINT;
 
 // So many terminals are first looked at without a way out, so that the compiler takes several at once.
 const BLOCK: usize = 512;
@@ -20,19 +20,17 @@ fn is_ring_at(work: &[u16], end: usize, pins: usize, x: usize) -> bool
     work[LEAN + (x - 1)] != 0
 }
 
-// The input of the lowest whose output stands at `from` or behind it; 8,192 where there is none.
-fn lowest_from(work: &[u16], end: usize, pins: usize, from: usize) -> usize
+// The input of the lowest whose output stands at `from` or behind it.
+fn lowest_from(work: &[u16], end: usize, pins: usize, from: usize) -> Option<usize>
     requires { LeanReady work.now end pins }
     ensures { result ≡ lowest_from work.now (end - from) from }
 {
-    let mut x = from;
-    while x < end {
+    for x in from..end {
         if is_ring_at(work, end, pins, x) {
-            return x - 1;
+            return Some(x - 1);
         }
-        x = x + 1;
     }
-    TERMINALS
+    None
 }
 
 // 1 where the entry v of an output, and u of the terminal before it, tell one; else 0.
@@ -51,10 +49,8 @@ fn rings_in(work: &[u16], end: usize, pins: usize, from: usize, to: usize) -> u1
     ensures { result ≡ 0 → RingFree work.now from to }
 {
     let mut sum: u16 = 0;
-    let mut x = from;
-    while x < to {
-        sum = sum + ring_of(work[LEAN + x], work[LEAN + x - 1]);
-        x = x + 1;
+    for x in from..to {
+        sum += ring_of(work[LEAN + x], work[LEAN + x - 1]);
     }
     sum
 }
@@ -67,8 +63,8 @@ fn block_end(end: usize, x: usize) -> usize
     if end - x < BLOCK { end } else { x + BLOCK }
 }
 
-// The input of the lowest; 8,192 where there is none.
-pub fn lowest(work: &[u16], end: usize, pins: usize) -> usize
+// The input of the lowest. A jump from block to block, no `step_by`: the last block is shorter, so its end is computed in any case.
+pub fn lowest(work: &[u16], end: usize, pins: usize) -> Option<usize>
     requires { LeanReady work.now end pins }
     ensures { result ≡ lowest_from work.now end 0 }
 {
@@ -80,5 +76,5 @@ pub fn lowest(work: &[u16], end: usize, pins: usize) -> usize
         }
         x = to;
     }
-    TERMINALS
+    None
 }

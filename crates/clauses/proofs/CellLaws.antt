@@ -19,7 +19,7 @@ use Rattle.clauses.specs.declared.numbers.Num.{Num}
 use Rattle.clauses.specs.Numbers.{no_number, NumberRead, plain_number, numbers_from, NumbersThere}
 use Rattle.clauses.specs.Cells.{most_cells, CellCount, cell_at, later_in, cell_of, cell_fits, CellsThere, CellsStored, cells_fit}
 use Rattle.clauses.specs.Meant.{values_in}
-use Rattle.clauses.proofs.NumberLaws.{list_long, numbers-step, number_there}
+use Rattle.clauses.proofs.NumberLaws.{list_long, numbers-step}
 
 -- ---- the number of a cell
 

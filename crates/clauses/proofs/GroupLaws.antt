@@ -1,5 +1,5 @@
 -- Groups word by word, and as the grammar reads them. Assumes nothing.
-use Prim.Native.Nat.{ℕ, zero, suc, ◌+◌, ◌≤◌, ◌<◌}
+use Prim.Native.Nat.{ℕ, suc, ◌+◌, ◌≤◌, ◌<◌}
 use mathlib.Core.Path.{◌≡◌, refl, sym, ap, ◌∙◌}
 use mathlib.Core.Bool.{Bool, true, false, ◌||◌, cond}
 use mathlib.Core.List.{List, [], ◌∷◌}
@@ -8,12 +8,10 @@ use lib.Dec.{eqb}
 use lib.ListN.{length}
 use borrow.Author.Tests.{eq-eqb, ne_eqb}
 use Rattle.notation_calculus.specs.Words.{Word}
-use Rattle.notation_calculus.specs.Grammar.{peek, behind}
-use Rattle.words.specs.Tables.{token_code}
+use Rattle.notation_calculus.specs.Grammar.{behind}
 use Rattle.words.specs.Next.{Said}
 use Rattle.words.specs.Lexed.{from, Lexed, Onward, Stands}
 use Rattle.grammar.specs.Skips.{closes_group}
-use Rattle.clauses.specs.declared.groups.Group.{Group}
 use Rattle.clauses.specs.Groups.{code_at, leaves_group, counted_by, count_in, past_in, group_count, group_past, GroupRead}
 
 -- ---- by the code of the first word

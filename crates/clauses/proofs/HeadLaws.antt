@@ -1,5 +1,5 @@
 -- The row of a clause that the grammar has read: its offsets are those of the clause's parts. Assumes nothing.
-use Prim.Native.Nat.{ℕ, ◌+◌, ◌-◌, ◌≤◌, ◌<◌}
+use Prim.Native.Nat.{ℕ, ◌-◌, ◌<◌}
 use mathlib.Core.Path.{◌≡◌, refl, sym, ap, ◌∙◌, subst}
 use mathlib.Core.Bool.{Bool, true, false, not, ◌&&◌, ◌||◌, cond}
 use mathlib.Core.List.{List}
@@ -17,8 +17,8 @@ use Rattle.grammar.specs.Ends.{rest_of}
 use Rattle.grammar.specs.Skips.{opens_group}
 use Rattle.clauses.specs.declared.groups.Group.{Group}
 use Rattle.clauses.specs.Groups.{code_at, GroupRead}
-use Rattle.clauses.specs.Rows.{body_at, key_for, RowOf, ClauseEnds, RowRead}
-use Rattle.clauses.proofs.ListLaws.{is_code, skip_first, NameRead, name-read, types_group, numbers_group}
+use Rattle.clauses.specs.Rows.{body_at, key_for, ClauseEnds, RowRead}
+use Rattle.clauses.proofs.ListLaws.{is_code, skip_first, name-read, types_group, numbers_group}
 
 -- what leaves words has read something
 pub rest_back : {A C : Type 0} (m : Answer (Got A)) (ws : List Word) → rest_of m ≡ good ws → ((g : Got A) → m ≡ good g → g.rest ≡ ws → C) → C

@@ -1,13 +1,13 @@
 -- Items one by one: a definition, a line, and the loop over them all. Assumes nothing.
-use Prim.Native.Nat.{ℕ, zero, suc, ◌+◌, ◌-◌, ◌≤◌, ◌<◌}
+use Prim.Native.Nat.{ℕ, zero, suc, ◌-◌, ◌≤◌, ◌<◌}
 use mathlib.Core.Path.{◌≡◌, refl, sym, ap, ◌∙◌, subst}
 use mathlib.Core.Bool.{Bool, true, false, not, ◌&&◌, cond}
 use mathlib.Core.List.{List, [], ◌∷◌, ◌++◌}
 use native.Mathlib.Omega.{arith}
 use lib.Dec.{T, eqb, ltb}
-use lib.ListN.{length, get_or}
+use lib.ListN.{length}
 use borrow.Author.Tests.{eq-eqb, ne_eqb}
-use Rattle.calculus.specs.Answer.{Answer, good, refused, ◌>>=◌, refuse, need}
+use Rattle.calculus.specs.Answer.{Refusal, Answer, good, refused, ◌>>=◌, need}
 use Rattle.calculus.proofs.Answers.{refused≢good, refused-inj, good-inj, on-bind}
 use Rattle.laws.proofs.Tests.{and_both, not_true, false_not_T}
 use Rattle.notation_calculus.specs.Words.{ends, table, type, Word}
@@ -15,25 +15,32 @@ use Rattle.notation_calculus.specs.Trees.{TypeTree, Clause}
 use Rattle.notation_calculus.specs.Grammar.{most_nested, most_clauses, Got, got, behind, is, list_from, type_at, type_body, term_body, clause_at, Items, may_follow_all, with_clause, with_lines, items_from}
 use Rattle.words.specs.Next.{Said}
 use Rattle.words.specs.Lexed.{from, Lexed, Onward, Stands}
-use Rattle.grammar.specs.declared.steps.End.{End}
-use Rattle.grammar.specs.Ends.{rest_of, type_step, term_step, Ends}
-use Rattle.grammar.specs.Skips.{Step, list_end, clause_end, item_end}
+use Rattle.std.proofs.Common.{Result, Ok, Err, IsErrAnd}
+use Rattle.answers.specs.declared.Reason.{Reason}
+use Rattle.answers.specs.declared.Refusal.{Refusal as Why}
+use Rattle.answers.specs.Refusals.{reason_number, refusal_at, said_why}
+use Rattle.grammar.specs.Ends.{End, rest_of, type_step, term_step, Ends}
+use Rattle.grammar.specs.Skips.{list_end, clause_end, item_end}
 use Rattle.grammar.proofs.EndLaws.{is_yes, is_no, ends_as}
 use Rattle.grammar.proofs.SkipLaws.{list_rest}
 use Rattle.grammar.proofs.ItemLaws.{type_clause_rest, term_clause_rest}
-use Rattle.making_memory.specs.Map.{clause_count_at, making_size}
 use Rattle.clauses.specs.declared.rows.Row.{Row}
-use Rattle.clauses.specs.Rows.{body_at, RowOf, ClauseEnds, RowRead, ShortRow, HoldsRows}
+use Rattle.clauses.specs.Rows.{body_at, ClauseEnds, RowRead, ShortRow, HoldsRows}
 use Rattle.clauses.specs.Cells.{CellsStored}
 use Rattle.clauses.specs.Follows.{RowThere, RowsThere, RowAdded, with_row}
-use Rattle.clauses.specs.Texts.{clause_item, line_item, item_of, OnlyRows, TableHeld, GrownTo, Proceeds, ProceedsIn, SoFar, OnlyClauses, Defined, defines_by}
+use Rattle.clauses.specs.Texts.{clause_item, line_item, item_of, OnlyRows, TableHeld, GrownTo, ReadsOn, Proceeds, ProceedsIn, SoFar, OnlyClauses, Defined, defines_by}
 use Rattle.clauses.proofs.HeadLaws.{rest_back}
 use Rattle.clauses.proofs.TableLaws.{row_there, short_row, rows_there, judged, with-row-kept, rows_more, kept-none, kept_then}
 
+-- a refusal passed on
+pub passed : {A : Type 0} {why : Why} (r : Result A Why) → IsErrAnd r (λ (x : Why). x ≡ why) → r ≡ Err why
+passed {A} (Ok x) e = absurd e
+passed {A} (Err x) e = ap {B = Result A Why} (λ (y : Why). Err y) e
+
 -- a reader that leaves a refusal has refused
-pub refused_back : {A : Type 0} (m : Answer (Got A)) (n p : ℕ) → rest_of m ≡ refuse n p → m ≡ refuse n p
-refused_back (good g) n p e = absurd (refused≢good (sym e))
-refused_back (refused why) n p e = ap refused (refused-inj e)
+pub refused_back : {A : Type 0} (m : Answer (Got A)) (why : Refusal) → rest_of m ≡ refused why → m ≡ refused why
+refused_back (good g) why e = absurd (refused≢good (sym e))
+refused_back (refused why') why e = ap refused (refused-inj e)
 
 -- ---- where a definition ends
 
@@ -46,76 +53,70 @@ module _ (text : List ℕ) (at : ℕ) (sort : Bool) (r : End) where
 
 -- ---- a definition
 
-module _ (text : List ℕ) (at : ℕ) (sort : Bool) (w : List ℕ) (l : Lexed text at) (T : TableHeld text w) (e : End) (d : Ends text (length (from text at)) (rest_of (clause_at (body_at sort) (from text at))) e) where
+module _ (text : List ℕ) (at : ℕ) (sort : Bool) (w : List ℕ) (l : Lexed text at) (T : TableHeld text w) where
   abbrev here : List Word
   here = from text at
 
   abbrev add_on : Items → Got Clause → Answer (Got Items)
   add_on items c = with_clause items c.value >>= λ next. got next c.rest
 
-  pub definition_bad : ¬ (e.number ≡ 0) → Proceeds text (length here) (clause_item sort here) w w e
+  pub definition_bad : (why : Why) → Ends text (length here) (rest_of (clause_at (body_at sort) here)) (Err why) → Proceeds text (length here) (clause_item sort here) w w (Err why)
   unfolding clause_item
-  definition_bad z = record {
-    refuses = λ _ items H. ap (λ (m : Answer (Got Clause)). m >>= add_on items) (refused_back (clause_at (body_at sort) here) e.number e.at (d.refuses z));
-    grows = λ q. absurd (z q);
-    fewer = λ q. absurd (z q);
-    lexed = λ q. absurd (z q);
+  definition_bad why d = record {
+    says = λ items H. ap (λ (m : Answer (Got Clause)). m >>= add_on items) (refused_back (clause_at (body_at sort) here) (said_why why) d);
     kept = kept-none w;
   }
 
-  module _ (z : e.number ≡ 0) where
-    pub definition-ends : ClauseEnds text at sort e.at
-    definition-ends = record { lexed = l; reads = (d.reaches z).is; past = (d.reaches z).lexed }
+  module _ (e : ℕ) (d : Ends text (length here) (rest_of (clause_at (body_at sort) here)) (Ok e)) where
+    pub definition-ends : ClauseEnds text at sort e
+    definition-ends = record { lexed = l; reads = d.is; past = d.lexed }
 
-    module _ (r : Row) (R : RowRead text at sort e.at r) where
+    module _ (r : Row) (R : RowRead text at sort e r) where
       pub definition-row : RowsThere text w × (RowThere text r × (ShortRow r × (length text ≤ 65535)))
       definition-row = (rows_there text w T.items.clauses T.holds T.room, (row_there text R.clause r R.row, (short_row text R.clause r R.row T.short, T.short)))
 
-      item-is : (items : Items) → clause_item sort here items ≡ (with_clause items R.clause >>= λ next. got next (from text e.at))
+      item-is : (items : Items) → clause_item sort here items ≡ (with_clause items R.clause >>= λ next. got next (from text e))
       unfolding clause_item
       item-is items = ap (λ (m : Answer (Got Clause)). m >>= add_on items) R.is
 
-      module _ (w' : List ℕ) (n : ℕ) (A : RowAdded text w r w' n) where
-        pub definition-refused : ¬ (n ≡ 0) → Proceeds text (length here) (clause_item sort here) w w' (record { number = n; at = r.name })
-        definition-refused q = record {
-          refuses = λ _ items H. item-is items ∙ ap (λ (m : Answer Items). m >>= λ next. got next (from text e.at)) ((judged text w items.clauses H R.clause r R.row items refl n A.refusal).1 q);
-          grows = λ y. absurd (q y);
-          fewer = λ y. absurd (q y);
-          lexed = λ y. absurd (q y);
-          kept = subst (OnlyRows w) (sym (A.same q)) (kept-none w);
+      module _ (w' : List ℕ) where
+        pub definition-refused : (reason : Reason) → RowAdded text w r w' (Err reason) → Proceeds text (length here) (clause_item sort here) w w' (Err (refusal_at reason r.name))
+        definition-refused reason A = record {
+          says = λ items H. item-is items ∙ ap (λ (m : Answer Items). m >>= λ next. got next (from text e)) ((judged text w items.clauses H R.clause r R.row items refl (reason_number reason) A.0).1 (λ y. absurd (omega (arith, y, A.1))));
+          kept = subst (OnlyRows w) (sym A.2) (kept-none w);
         }
 
-        few-now : n ≡ 0 → length T.items.clauses < most_clauses
-        few-now q = ((judged text w T.items.clauses T.holds R.clause r R.row T.items refl n A.refusal).0 q).1
+        module _ (A : RowAdded text w r w' (Ok tt)) where
+          few-now : length T.items.clauses < most_clauses
+          few-now = ((judged text w T.items.clauses T.holds R.clause r R.row T.items refl 0 A.0).0 refl).1
 
-        grown-by : n ≡ 0 → (items : Items) → HoldsRows text w items.clauses → GrownTo text (clause_item sort here items) w' e.at
-        grown-by q items H =
-            let j = (judged text w items.clauses H R.clause r R.row items refl n A.refusal).0 q in
-            record {
-              items = record { clauses = items.clauses ++ R.clause ∷ []; lines = items.lines };
-              is = item-is items ∙ ap (λ (m : Answer Items). m >>= λ next. got next (from text e.at)) j.0;
-              holds = rows_more w r (length items.clauses) H.counted j.1 T.room text w' (subst (λ (k : ℕ). CellsStored text (with_row w r) k r.numbered r.numbers w') H.counted (A.added q)) items.clauses H refl R.clause R.row;
-            }
+          grown-by : (items : Items) → HoldsRows text w items.clauses → GrownTo text (clause_item sort here items) w' e
+          grown-by items H =
+              let j = (judged text w items.clauses H R.clause r R.row items refl 0 A.0).0 refl in
+              record {
+                items = record { clauses = items.clauses ++ R.clause ∷ []; lines = items.lines };
+                is = item-is items ∙ ap (λ (m : Answer Items). m >>= λ next. got next (from text e)) j.0;
+                holds = rows_more w r (length items.clauses) H.counted j.1 T.room text w' (subst (λ (k : ℕ). CellsStored text (with_row w r) k r.numbered r.numbers w') H.counted A.1) items.clauses H refl R.clause R.row;
+              }
 
-        pub definition-grown : n ≡ 0 → Proceeds text (length here) (clause_item sort here) w w' e
-        definition-grown q = record {
-          refuses = λ y. absurd (y z);
-          grows = λ _ items H. grown-by q items H;
-          fewer = λ _. (d.reaches z).fewer;
-          lexed = λ _. (d.reaches z).lexed;
-          kept = with-row-kept w r (length T.items.clauses) T.holds.counted (few-now q) T.room text w' (subst (λ (k : ℕ). CellsStored text (with_row w r) k r.numbered r.numbers w') T.holds.counted (A.added q));
-        }
+          pub definition-grown : Proceeds text (length here) (clause_item sort here) w w' (Ok e)
+          definition-grown = record {
+            says = record { grows = grown-by; fewer = d.fewer; lexed = d.lexed };
+            kept = with-row-kept w r (length T.items.clauses) T.holds.counted few-now T.room text w' (subst (λ (k : ℕ). CellsStored text (with_row w r) k r.numbered r.numbers w') T.holds.counted A.1);
+          }
 
 -- ---- an item by its first word
 
 pub proceeds_as : (text : List ℕ) (b b' : ℕ) (m m' : Items → Answer (Got Items)) (w w' : List ℕ) (r : End) → b ≤ b' → ((items : Items) → m' items ≡ m items) → Proceeds text b m w w' r → Proceeds text b' m' w w' r
-proceeds_as text b b' m m' w w' r h e p = record {
-  refuses = λ z items H. e items ∙ p.refuses z items H;
-  grows = λ z items H. let g = p.grows z items H in record { items = g.items; is = e items ∙ g.is; holds = g.holds };
-  fewer = λ z. omega (arith, p.fewer z);
-  lexed = λ z. p.lexed z;
-  kept = p.kept;
-}
+proceeds_as text b b' m m' w w' r h e p = record { says = by r p.says; kept = p.kept }
+  where
+    by : (r : End) → ReadsOn text b m w w' r → ReadsOn text b' m' w w' r
+    by (Ok end) g = record {
+      grows = λ items H. let x = g.grows items H in record { items = x.items; is = e items ∙ x.is; holds = x.holds };
+      fewer = omega (arith, g.fewer);
+      lexed = g.lexed;
+    }
+    by (Err why) g = λ items H. e items ∙ g items H
 
 module _ (text : List ℕ) (at : ℕ) (v : Said) (s : Stands text at v) (w w' : List ℕ) (r : End) where
   abbrev now : List Word
@@ -142,17 +143,19 @@ line_on items ts = got (with_lines items ts.value) ts.rest
 
 -- a line of types, whatever reads a type
 line_proceeds : (text : List ℕ) (b : ℕ) (l : Answer (Got (List TypeTree))) (m : Items → Answer (Got Items)) (w : List ℕ) (r : End) → Ends text b (rest_of l) r → ((items : Items) → m items ≡ (l >>= line_on items)) → Proceeds text b m w w r
-line_proceeds text b l m w r d e = record {
-  refuses = λ z items H. e items ∙ ap (λ (x : Answer (Got (List TypeTree))). x >>= line_on items) (refused_back l r.number r.at (d.refuses z));
-  grows = λ z items H. rest_back l _ (d.reaches z).is λ g h f. record {
-    items = with_lines items g.value;
-    is = e items ∙ ap (λ (x : Answer (Got (List TypeTree))). x >>= line_on items) h ∙ ap (λ (us : List Word). got (with_lines items g.value) us) f;
-    holds = H;
-  };
-  fewer = λ z. (d.reaches z).fewer;
-  lexed = λ z. (d.reaches z).lexed;
-  kept = kept-none w;
-}
+line_proceeds text b l m w r d e = record { says = by r d; kept = kept-none w }
+  where
+    by : (r : End) → Ends text b (rest_of l) r → ReadsOn text b m w w r
+    by (Ok end) d = record {
+      grows = λ items H. rest_back l _ d.is λ g h f. record {
+        items = with_lines items g.value;
+        is = e items ∙ ap (λ (x : Answer (Got (List TypeTree))). x >>= line_on items) h ∙ ap (λ (us : List Word). got (with_lines items g.value) us) f;
+        holds = H;
+      };
+      fewer = d.fewer;
+      lexed = d.lexed;
+    }
+    by (Err why) d = λ items H. e items ∙ ap (λ (x : Answer (Got (List TypeTree))). x >>= line_on items) (refused_back l (said_why why) d)
 
 module _ (text : List ℕ) (at : ℕ) (v : Said) (s : Stands text at v) (w : List ℕ) (r : End) where
   abbrev line : List Word
@@ -227,45 +230,43 @@ module _ (text w₀ : List ℕ) (start : ℕ) (T : TableHeld text w₀) (w : Lis
       let s = i.so_far (length (from text start)) (omega arith) T.items T.holds in
       record { short = T.short; room = omega (arith, T.room, i.kept.same); items = s.done; holds = s.holds }
 
-  pub reading-done : v.code ≡ 0 → ProceedsIn text start w₀ w (record { number = 0; at = at })
+  pub reading-done : v.code ≡ 0 → ProceedsIn text start w₀ w (Ok at)
   reading-done z = λ n h. record {
-    refuses = λ q. absurd (q refl);
-    grows = λ _ items H. let s = i.so_far n h items H in record { items = s.done; is = s.total ∙ items_end s.rounds s.done (from text at) (is_yes text at v i.stands ends z); holds = s.holds };
-    fewer = λ _. omega (arith, i.low);
-    lexed = λ _. i.lexed;
+    says = record {
+      grows = λ items H. let s = i.so_far n h items H in record { items = s.done; is = s.total ∙ items_end s.rounds s.done (from text at) (is_yes text at v i.stands ends z); holds = s.holds };
+      fewer = omega (arith, i.low);
+      lexed = i.lexed;
+    };
     kept = i.kept;
   }
 
-  module _ (z : ¬ (v.code ≡ 0)) (w' : List ℕ) (e : End) (p : Proceeds text (length (from text at)) (item_of (from text at)) w w' e) where
+  module _ (z : ¬ (v.code ≡ 0)) (w' : List ℕ) where
     some : 0 < length (from text at)
     some = omega (arith, (i.stands.onward z).fewer)
 
     round-on : (n : ℕ) (items : Items) → (s : SoFar text n items start w at) → items_from n items (from text start) ≡ (item_of (from text at) s.done >>= λ g. items_from (s.rounds - 1) g.value g.rest)
     round-on n items s = s.total ∙ items_round s.rounds s.done (from text at) (is_no text at v i.stands ends z) (omega (arith, some, s.enough))
 
-    pub reading-bad : ¬ (e.number ≡ 0) → ProceedsIn text start w₀ w' e
-    reading-bad q = λ n h. record {
-      refuses = λ _ items H. let s = i.so_far n h items H in round-on n items s ∙ ap (λ (m : Answer (Got Items)). m >>= λ g. items_from (s.rounds - 1) g.value g.rest) (p.refuses q s.done s.holds);
-      grows = λ y. absurd (q y);
-      fewer = λ y. absurd (q y);
-      lexed = λ y. absurd (q y);
+    pub reading-bad : (why : Why) → Proceeds text (length (from text at)) (item_of (from text at)) w w' (Err why) → ProceedsIn text start w₀ w' (Err why)
+    reading-bad why p = λ n h. record {
+      says = λ items H. let s = i.so_far n h items H in round-on n items s ∙ ap (λ (m : Answer (Got Items)). m >>= λ g. items_from (s.rounds - 1) g.value g.rest) (p.says s.done s.holds);
       kept = kept_then w₀ w w' i.kept p.kept;
     }
 
-    pub reading-more : e.number ≡ 0 → (v' : Said) → Stands text e.at v' → ReadingItems text w₀ start w' e.at v'
-    reading-more q v' t = record {
+    pub reading-more : (e : ℕ) → Proceeds text (length (from text at)) (item_of (from text at)) w w' (Ok e) → (v' : Said) → Stands text e v' → ReadingItems text w₀ start w' e v'
+    reading-more e p v' t = record {
       so_far = λ n h items H.
           let s = i.so_far n h items H in
-          let g = p.grows q s.done s.holds in
+          let g = p.says.grows s.done s.holds in
           record {
             done = g.items;
             rounds = s.rounds - 1;
             total = round-on n items s ∙ ap (λ (m : Answer (Got Items)). m >>= λ x. items_from (s.rounds - 1) x.value x.rest) g.is;
-            enough = omega (arith, p.fewer q, s.enough);
+            enough = omega (arith, p.says.fewer, s.enough);
             holds = g.holds;
           };
-      low = omega (arith, p.fewer q, i.low);
-      lexed = p.lexed q;
+      low = omega (arith, p.says.fewer, i.low);
+      lexed = p.says.lexed;
       stands = t;
       kept = kept_then w₀ w w' i.kept p.kept;
     }
@@ -330,45 +331,33 @@ module _ (text w₀ : List ℕ) (start : ℕ) (T : TableHeld text w₀) (w : Lis
   pub defining_held : TableHeld text w
   defining_held = reading-held text w₀ start T w at v as_items
 
-  pub defining_done : Defined text start w₀ w (record { number = 0; at = at })
-  defining_done = record {
-    refuses = λ q. absurd (q refl);
-    reaches = λ _. i.so_far;
-    low = λ _. i.low;
-    lexed = λ _. i.lexed;
-    kept = i.kept;
-  }
+  pub defining_done : Defined text start w₀ w (Ok at)
+  defining_done = record { says = record { reaches = i.so_far; low = i.low; lexed = i.lexed }; kept = i.kept }
 
-  module _ (d : defines_by v.code ≡ true) (w' : List ℕ) (e : End) (p : Proceeds text (length (from text at)) (item_of (from text at)) w w' e) where
-    pub defining-bad : ¬ (e.number ≡ 0) → Defined text start w₀ w' e
-    defining-bad q =
-        let bad = reading-bad text w₀ start T w at v as_items (defines_yes v.code d).0 w' e p q in
-        record {
-          refuses = λ y n h items H. (bad n h).refuses y items H;
-          reaches = λ y. absurd (q y);
-          low = λ y. absurd (q y);
-          lexed = λ y. absurd (q y);
-          kept = (bad (length (from text start)) (omega arith)).kept;
-        }
+  module _ (d : defines_by v.code ≡ true) (w' : List ℕ) where
+    pub defining-bad : (why : Why) → Proceeds text (length (from text at)) (item_of (from text at)) w w' (Err why) → Defined text start w₀ w' (Err why)
+    defining-bad why p =
+        let bad = reading-bad text w₀ start T w at v as_items (defines_yes v.code d).0 w' why p in
+        record { says = λ n h items H. (bad n h).says items H; kept = (bad (length (from text start)) (omega arith)).kept }
 
-    pub defining-more : e.number ≡ 0 → (v' : Said) → Stands text e.at v' → ReadingDefinitions text w₀ start w' e.at v'
-    defining-more q v' t = record {
+    pub defining-more : (e : ℕ) → Proceeds text (length (from text at)) (item_of (from text at)) w w' (Ok e) → (v' : Said) → Stands text e v' → ReadingDefinitions text w₀ start w' e v'
+    defining-more e p v' t = record {
       so_far = λ n h items H.
           let o = i.so_far n h items H in
           let s = o.so_far in
-          let g = p.grows q s.done s.holds in
+          let g = p.says.grows s.done s.holds in
           record {
             so_far = record {
               done = g.items;
               rounds = s.rounds - 1;
-              total = round-on text w₀ start T w at v as_items (defines_yes v.code d).0 w' e p n items s ∙ ap (λ (m : Answer (Got Items)). m >>= λ x. items_from (s.rounds - 1) x.value x.rest) g.is;
-              enough = omega (arith, p.fewer q, s.enough);
+              total = round-on text w₀ start T w at v as_items (defines_yes v.code d).0 w' n items s ∙ ap (λ (m : Answer (Got Items)). m >>= λ x. items_from (s.rounds - 1) x.value x.rest) g.is;
+              enough = omega (arith, p.says.fewer, s.enough);
               holds = g.holds;
             };
             lines = item_lines (from text at) s.done _ (is_no text at v i.stands table (defines_yes v.code d).1) g.is ∙ o.lines;
           };
-      low = omega (arith, p.fewer q, i.low);
-      lexed = p.lexed q;
+      low = omega (arith, p.says.fewer, i.low);
+      lexed = p.says.lexed;
       stands = t;
       kept = kept_then w₀ w w' i.kept p.kept;
     }

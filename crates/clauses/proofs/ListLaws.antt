@@ -1,13 +1,12 @@
 -- The grammar's lists of parameters: how many they have, what stands behind them, and each of them. Assumes nothing.
-use Prim.Native.Nat.{ℕ, zero, suc, ◌+◌, ◌≤◌, ◌<◌}
+use Prim.Native.Nat.{ℕ, zero, suc}
 use mathlib.Core.Path.{◌≡◌, refl, sym, ap, ◌∙◌, subst}
-use mathlib.Core.Bool.{Bool, true, false, ◌||◌, cond}
+use mathlib.Core.Bool.{Bool, true, false, cond}
 use mathlib.Core.List.{List, [], ◌∷◌}
-use native.Mathlib.Omega.{arith}
-use lib.Dec.{T, eqb}
+use lib.Dec.{eqb}
 use lib.ListN.{length}
 use borrow.Author.Tests.{eq-eqb, ne_eqb, eqb-true, eqb-false}
-use Rattle.calculus.specs.Answer.{Answer, good, refused, ◌>>=◌, need}
+use Rattle.calculus.specs.Answer.{Answer, good, ◌>>=◌}
 use Rattle.calculus.proofs.Answers.{refused≢good, good-inj, on-bind, on-need}
 use Rattle.laws.proofs.Tests.{T-is}
 use Rattle.notation_calculus.specs.Words.{Sign, sign_code, comma, plus, square, endSquare, curly, endCurly, Token, sign, part, number, name, Word}

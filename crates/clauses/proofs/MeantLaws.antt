@@ -11,7 +11,7 @@ use borrow.Author.Tests.{eq-eqb, ne_eqb}
 use Rattle.calculus.specs.Answer.{Answer, good, refuse}
 use Rattle.notation_calculus.specs.Words.{Name, Word}
 use Rattle.notation_calculus.specs.Trees.{Number, Clause}
-use Rattle.notation_calculus.specs.Grammar.{behind, number_at, is_type, namesake}
+use Rattle.notation_calculus.specs.Grammar.{behind}
 use Rattle.notation_calculus.specs.Making.{fits, fit_all, has_numbers, up_to, seen_by, Put, put_of, meant, clause_for}
 use Rattle.words.specs.Next.{run_at}
 use Rattle.words.specs.Lexed.{from, Lexed, Onward}
@@ -19,9 +19,8 @@ use Rattle.making_memory.specs.Map.{scope_at, clause_count_at}
 use Rattle.clauses.specs.declared.numbers.Num.{Num}
 use Rattle.clauses.specs.declared.rows.Row.{Row}
 use Rattle.clauses.specs.declared.meant.Asked.{Asked}
-use Rattle.clauses.specs.Groups.{rest_in_lem, list_in}
-use Rattle.clauses.specs.Rows.{RowOf, row_in, no_clause, clause_of, HoldsRows, key_for, KeyFrom, KeyBelow}
-use Rattle.clauses.specs.Numbers.{no_number, NumberThere, NumberRead, NumberPast, plain_number, numbers_from, NumbersThere}
+use Rattle.clauses.specs.Rows.{row_in, no_clause, clause_of, HoldsRows, key_for, KeyFrom, KeyBelow}
+use Rattle.clauses.specs.Numbers.{NumberThere, NumberRead, NumberPast, plain_number, numbers_from, NumbersThere}
 use Rattle.clauses.specs.Follows.{row_namesake, RowsThere}
 use Rattle.clauses.specs.Meant.{values_in, row_meant, first_meant, rows_up_to, row_seen}
 use Rattle.clauses.proofs.NumberLaws.{list_long, numbers-step, number_there}

@@ -6,18 +6,18 @@ use mathlib.Core.List.{List, [], ◌∷◌}
 use native.Mathlib.Omega.{arith}
 use lib.Dec.{eqb, leb}
 use lib.ListN.{length}
-use Rattle.calculus.specs.Answer.{Answer, good, refused, ◌>>=◌}
+use Rattle.calculus.specs.Answer.{Answer, good, ◌>>=◌}
 use Rattle.calculus.proofs.Answers.{refused≢good, good-inj, on-bind}
 use Rattle.notation_calculus.specs.Words.{plus, Token, sign, part, number, name, Word}
 use Rattle.notation_calculus.specs.Trees.{Number}
 use Rattle.notation_calculus.specs.Grammar.{Got, got, peek, behind, place, is, value_of, read_number, number_at, covers, cover_all}
 use Rattle.words.specs.Tables.{token_code, token_value}
 use Rattle.words.specs.Next.{Said}
-use Rattle.words.specs.Lexed.{from, Lexed, Onward, Stands}
+use Rattle.words.specs.Lexed.{from, Onward, Stands}
 use Rattle.words.specs.Marks.{Marks}
 use Rattle.grammar.proofs.EndLaws.{sign_not, is_yes, mark-stands, mark_no}
 use Rattle.clauses.specs.declared.numbers.Num.{Num}
-use Rattle.clauses.specs.Groups.{code_at, value_in, rest_in_lem, list_in, Readable}
+use Rattle.clauses.specs.Groups.{value_in, rest_in_lem, list_in, Readable}
 use Rattle.clauses.specs.Numbers.{no_number, NumberThere, NumberRead, NumberPast, plain_number, numbers_from, NumbersThere}
 use Rattle.clauses.proofs.HeadLaws.{spelled-here, name-onward, name-some, place_inside}
 

@@ -1,9 +1,8 @@
 -- The table and the clauses that it holds: rows decide as clauses do, and one more row is one more clause. Assumes nothing.
-use Prim.Native.Nat.{ℕ, zero, suc, ◌+◌, ◌*◌, ◌-◌, ◌≤◌, ◌<◌}
+use Prim.Native.Nat.{ℕ, zero, suc, ◌+◌, ◌*◌, ◌≤◌, ◌<◌}
 use mathlib.Core.Path.{◌≡◌, refl, sym, ap, ◌∙◌, subst}
 use mathlib.Core.Bool.{Bool, true, false, not, ◌&&◌, ◌||◌, cond}
 use mathlib.Core.List.{List, [], ◌∷◌, ◌++◌}
-use mathlib.Core.Logic.{◌≢◌}
 use native.Mathlib.Omega.{arith}
 use native.Mathlib.Decide.{dec_le}
 use lib.Dec.{eqb, leb, ltb}
@@ -14,14 +13,14 @@ use Rattle.laws.proofs.Regions.{sets_outside, sets-before, sets-at}
 use Rattle.calculus.specs.Answer.{Answer, good, ◌>>=◌, refuse, need}
 use Rattle.notation_calculus.specs.Words.{Name, same_name}
 use Rattle.notation_calculus.specs.Trees.{Number, Clause}
-use Rattle.notation_calculus.specs.Grammar.{most_clauses, got, number_at, cover_all, is_type, same_sort, namesake, may_follow, may_follow_all, Items, with_clause}
+use Rattle.notation_calculus.specs.Grammar.{most_clauses, number_at, cover_all, is_type, same_sort, namesake, may_follow, may_follow_all, Items, with_clause}
 use Rattle.words.specs.Next.{run_at}
 use Rattle.words.specs.Lexed.{from}
 use Rattle.making_memory.specs.Map.{clauses_at, cells_at, frames_at, clause_count_at, making_size}
 use Rattle.clauses.specs.declared.rows.Row.{Row}
-use Rattle.clauses.specs.Groups.{list_in, Readable}
+use Rattle.clauses.specs.Groups.{Readable}
 use Rattle.clauses.specs.Rows.{RowOf, row_numbers, ShortRow, row_in, no_clause, clause_of, HoldsRows}
-use Rattle.clauses.specs.Numbers.{no_number, numbers_from, NumbersThere}
+use Rattle.clauses.specs.Numbers.{no_number, numbers_from}
 use Rattle.clauses.specs.Cells.{CellsThere, CellsStored}
 use Rattle.clauses.specs.Follows.{RowThere, row_namesake, row_follows, follows_from, RowsThere, row_refusal, with_row}
 use Rattle.clauses.specs.Texts.{OnlyRows}

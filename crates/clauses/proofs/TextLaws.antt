@@ -1,6 +1,6 @@
 -- The whole text: its edition, then its items. Assumes nothing.
-use Prim.Native.Nat.{ℕ, ◌+◌, ◌≤◌, ◌<◌}
-use mathlib.Core.Path.{◌≡◌, refl, sym, ap, ◌∙◌, subst}
+use Prim.Native.Nat.{ℕ, ◌+◌, ◌≤◌}
+use mathlib.Core.Path.{◌≡◌, refl, sym, ap, ◌∙◌}
 use mathlib.Core.Bool.{Bool, true, false, ◌||◌, cond}
 use mathlib.Core.List.{List, []}
 use native.Mathlib.Omega.{arith}
@@ -8,7 +8,7 @@ use lib.Dec.{eqb}
 use lib.ListN.{length, get_or, set, length-set}
 use lib.Seq.{get_or-set_same, get_or-set_other}
 use borrow.Author.Tests.{eqb-true}
-use Rattle.calculus.specs.Answer.{Answer, good, refused, ◌>>=◌, refuse, need}
+use Rattle.calculus.specs.Answer.{Answer, good, refused, ◌>>=◌, need}
 use Rattle.calculus.specs.Terms.{Edition, is_second}
 use Rattle.calculus.specs.Terms as Terms
 use Rattle.calculus.proofs.Answers.{refused≢good, good-inj}
@@ -18,15 +18,17 @@ use Rattle.notation_calculus.specs.Grammar.{Got, got, peek, behind, place, is, v
 use Rattle.words.specs.Tables.{token_value}
 use Rattle.words.specs.Next.{Said}
 use Rattle.words.specs.Lexed.{from, Lexed, Onward, Stands}
-use Rattle.grammar.specs.declared.steps.End.{End}
-use Rattle.grammar.specs.Ends.{rest_of, Ends}
+use Rattle.std.proofs.Common.{Result, Ok, Err}
+use Rattle.answers.specs.declared.Refusal.{Refusal as Why}
+use Rattle.answers.specs.Refusals.{said_why}
+use Rattle.grammar.specs.Ends.{Ends}
 use Rattle.grammar.specs.Skips.{edition_end}
 use Rattle.grammar.proofs.EndLaws.{is_yes, is_no}
 use Rattle.grammar.proofs.ItemLaws.{edition_rest}
-use Rattle.making_memory.specs.Map.{clauses_at, frames_at, clause_count_at, second_at_lem, making_size}
+use Rattle.making_memory.specs.Map.{clause_count_at, second_at_lem, making_size}
 use Rattle.clauses.specs.declared.texts.Whole.{Whole}
 use Rattle.clauses.specs.Rows.{flag_of, HoldsRows}
-use Rattle.clauses.specs.Texts.{OnlyRows, OnlyTable, TableHeld, ProceedsIn, Defined, refused_text, ItemsTo, ItemsRead, says_second, HoldsClauses, TextHeld, TextRead}
+use Rattle.clauses.specs.Texts.{OnlyRows, OnlyTable, TableHeld, ProceedsIn, Defined, ItemsTo, ReadsItems, ItemsRead, says_second, TextHeld, ReadsText, TextRead}
 use Rattle.clauses.proofs.HeadLaws.{rest_back}
 use Rattle.clauses.proofs.TableLaws.{kept_then}
 use Rattle.clauses.proofs.ItemLaws.{refused_back}
@@ -110,7 +112,7 @@ module _ (w : List ℕ) (f : ℕ) (room : making_size ≤ length w) where
 pub only_none : (w : List ℕ) → OnlyTable w w
 only_none w = record { same = refl; below = λ j h. refl; above = λ j h g l. refl }
 
-module _ (text : List ℕ) (e : End) (d : Ends text (length (from text 0) + 1) (edition_end (from text 0)) e) where
+module _ (text : List ℕ) where
   abbrev words : List Word
   words = from text 0
 
@@ -121,22 +123,21 @@ module _ (text : List ℕ) (e : End) (d : Ends text (length (from text 0) + 1) (
   unfolding text_of
   text-by = refl
 
-  pub text_edition_bad : ¬ (e.number ≡ 0) → (w : List ℕ) → TextRead text w w (refused_text e.number e.at)
-  text_edition_bad z w = record {
-    refuses = λ _. text-by ∙ ap (λ (m : Answer (Got Edition)). m >>= λ E. text_on E (items_from (length words) no_items E.rest)) (refused_back (edition_at words) e.number e.at (edition_rest words ∙ d.refuses z));
-    holds = λ q. absurd (z q);
+  pub text_edition_bad : (why : Why) → Ends text (length (from text 0) + 1) (edition_end (from text 0)) (Err why) → (w : List ℕ) → TextRead text w w (Err why)
+  text_edition_bad why d w = record {
+    says = text-by ∙ ap (λ (m : Answer (Got Edition)). m >>= λ E. text_on E (items_from (length words) no_items E.rest)) (refused_back (edition_at words) (said_why why) (edition_rest words ∙ d));
     kept = only_none w;
   }
 
-  module _ (z : e.number ≡ 0) (w : List ℕ) (room : making_size ≤ length w) (f : ℕ) (second : f ≡ flag_of (says_second (from text 0))) (w' : List ℕ) (r : Whole) (p : ItemsRead text e.at (begun w f room) w' r) where
-    most : length (from text e.at) ≤ length words
-    most = omega (arith, (d.reaches z).fewer)
+  module _ (e : ℕ) (d : Ends text (length (from text 0) + 1) (edition_end (from text 0)) (Ok e)) (w : List ℕ) (room : making_size ≤ length w) (f : ℕ) (second : f ≡ flag_of (says_second (from text 0))) (w' : List ℕ) (r : Result Whole Why) (p : ItemsRead text e (begun w f room) w' r) where
+    most : length (from text e) ≤ length words
+    most = omega (arith, d.fewer)
 
-    text-is : (m : Answer (Got Items)) → items_from (length words) no_items (from text e.at) ≡ m → (C : Type 0) → ((E : Got Edition) → edition_at words ≡ good E → text_of words ≡ text_on E m → C) → C
-    text-is m h C k = rest_back (edition_at words) _ (edition_rest words ∙ (d.reaches z).is) λ E g q. k E g (text-by ∙ ap (λ (x : Answer (Got Edition)). x >>= λ G. text_on G (items_from (length words) no_items G.rest)) g ∙ ap (λ (us : List Word). text_on E (items_from (length words) no_items us)) q ∙ ap (text_on E) h)
+    text-is : (m : Answer (Got Items)) → items_from (length words) no_items (from text e) ≡ m → (C : Type 0) → ((E : Got Edition) → edition_at words ≡ good E → text_of words ≡ text_on E m → C) → C
+    text-is m h C k = rest_back (edition_at words) _ (edition_rest words ∙ d.is) λ E g q. k E g (text-by ∙ ap (λ (x : Answer (Got Edition)). x >>= λ G. text_on G (items_from (length words) no_items G.rest)) g ∙ ap (λ (us : List Word). text_on E (items_from (length words) no_items us)) q ∙ ap (text_on E) h)
 
-    held : ItemsTo text (length words) no_items e.at w' r → TextHeld text w' r
-    held g = text-is _ g.is (TextHeld text w' r) λ E h t. record {
+    held : (x : Whole) → ItemsTo text (length words) no_items e w' x → TextHeld text w' x
+    held x g = text-is _ g.is (TextHeld text w' x) λ E h t. record {
       X = record { edition = E.value; clauses = g.all.clauses; lines = g.all.lines; end = place (from text g.stop) };
       is = t;
       holds = record { rows = g.holds; edition = second-kept w f room w' p.kept ∙ second ∙ ap flag_of (sym (edition_says words E h)) };
@@ -152,54 +153,46 @@ module _ (text : List ℕ) (e : End) (d : Ends text (length (from text 0) + 1) (
     }
 
     pub text-read : TextRead text w w' r
-    text-read = record {
-      refuses = λ q. text-is _ (p.refuses q (length words) most no_items (begun-rows w f room text)) (text_of words ≡ refuse r.number r.place) λ E g t. t;
-      holds = λ q. held (p.reads q (length words) most no_items (begun-rows w f room text));
-      kept = only-table w f room w' p.kept;
-    }
+    text-read = record { says = by r p.says; kept = only-table w f room w' p.kept }
+      where
+        by : (x : Result Whole Why) → ReadsItems text e (begun w f room) w' x → ReadsText text w' x
+        by (Ok x) g = held x (g (length words) most no_items (begun-rows w f room text))
+        by (Err why) g = text-is _ (g (length words) most no_items (begun-rows w f room text)) (text_of words ≡ refused (said_why why)) λ E h t. t
 
 -- ---- the items: the definitions above the first line, then all that is left
 
-pub items_as : {text : List ℕ} {start : ℕ} {w w' : List ℕ} {q r : Whole} → q ≡ r → ItemsRead text start w w' r → ItemsRead text start w w' q
-items_as {text} {start} {w} {w'} e p = subst (λ (r : Whole). ItemsRead text start w w' r) (sym e) p
+module _ (text : List ℕ) (start : ℕ) (w w₁ : List ℕ) where
+  pub items_defined_bad : (why : Why) → Defined text start w w₁ (Err why) → ItemsRead text start w w₁ (Err why)
+  items_defined_bad why D = record { says = D.says; kept = D.kept }
 
-module _ (text : List ℕ) (start : ℕ) (w w₁ : List ℕ) (d : End) (D : Defined text start w w₁ d) where
-  pub items_defined_bad : ¬ (d.number ≡ 0) → ItemsRead text start w w₁ (refused_text d.number d.at)
-  items_defined_bad z = record { refuses = λ _. D.refuses z; reads = λ q. absurd (z q); kept = D.kept }
-
-  module _ (z : d.number ≡ 0) where
+  module _ (d : ℕ) (D : Defined text start w w₁ (Ok d)) where
     pub defined-held : TableHeld text w → TableHeld text w₁
     defined-held T =
-        let s = (D.reaches z (length (from text start)) (omega arith) T.items T.holds).so_far in
+        let s = (D.says.reaches (length (from text start)) (omega arith) T.items T.holds).so_far in
         record { short = T.short; room = omega (arith, T.room, D.kept.same); items = s.done; holds = s.holds }
 
-    module _ (w₂ : List ℕ) (r : End) (P : ProceedsIn text d.at w₁ w₂ r) where
-      both-kept : OnlyRows w w₂
-      both-kept = kept_then w w₁ w₂ D.kept (P (length (from text d.at)) (omega arith)).kept
-
-      pub items-bad : ¬ (r.number ≡ 0) → ItemsRead text start w w₂ (refused_text r.number r.at)
-      items-bad q = record {
-        refuses = λ _ n h items H.
-            let s = (D.reaches z n h items H).so_far in
-            s.total ∙ (P s.rounds s.enough).refuses q s.done s.holds;
-        reads = λ y. absurd (q y);
-        kept = both-kept;
+    module _ (w₂ : List ℕ) where
+      pub items-bad : (why : Why) → ProceedsIn text d w₁ w₂ (Err why) → ItemsRead text start w w₂ (Err why)
+      items-bad why P = record {
+        says = λ n h items H.
+            let s = (D.says.reaches n h items H).so_far in
+            s.total ∙ (P s.rounds s.enough).says s.done s.holds;
+        kept = kept_then w w₁ w₂ D.kept (P (length (from text d)) (omega arith)).kept;
       }
 
-      pub items-good : r.number ≡ 0 → (seen : ℕ) → seen ≡ get_or w₁ clause_count_at 0 → (v : Said) → Stands text r.at v → ItemsRead text start w w₂ (record { number = 0; place = v.place; items = d.at; seen = seen })
-      items-good q seen known v t = record {
-        refuses = λ y. absurd (y refl);
-        reads = λ _ n h items H.
-            let o = D.reaches z n h items H in
+      pub items-good : (r : ℕ) → ProceedsIn text d w₁ w₂ (Ok r) → (seen : ℕ) → seen ≡ get_or w₁ clause_count_at 0 → (v : Said) → Stands text r v → ItemsRead text start w w₂ (Ok (record { place = v.place; items = d; seen = seen }))
+      items-good r P seen known v t = record {
+        says = λ n h items H.
+            let o = D.says.reaches n h items H in
             let s = o.so_far in
-            let g = (P s.rounds s.enough).grows q s.done s.holds in
+            let g = (P s.rounds s.enough).says.grows s.done s.holds in
             record {
               all = g.items;
-              stop = r.at;
+              stop = r;
               is = s.total ∙ g.is;
               holds = g.holds;
               end = sym t.place;
-              lexed = D.lexed z;
+              lexed = D.says.lexed;
               done = s.done;
               rounds = s.rounds;
               enough = s.enough;
@@ -207,8 +200,8 @@ module _ (text : List ℕ) (start : ℕ) (w w₁ : List ℕ) (d : End) (D : Defi
               count = sym (known ∙ s.holds.counted);
               lines = o.lines;
             };
-        kept = both-kept;
+        kept = kept_then w w₁ w₂ D.kept (P (length (from text d)) (omega arith)).kept;
       }
 
-      pub items_lexed : r.number ≡ 0 → Lexed text r.at
-      items_lexed q = (P (length (from text d.at)) (omega arith)).lexed q
+      pub items_lexed : (r : ℕ) → ProceedsIn text d w₁ w₂ (Ok r) → Lexed text r
+      items_lexed r P = (P (length (from text d)) (omega arith)).says.lexed

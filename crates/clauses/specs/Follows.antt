@@ -1,12 +1,14 @@
 -- A clause after those of the table, by rows: Grammar's `may_follow` as the code reads it. Assumes nothing.
-use Rattle.std.specs.Prelude.{ℕ, zero, suc, ◌+◌, ◌*◌, ◌≤◌, ◌<◌, ◌≡◌, Bool, true, not, ◌&&◌, ◌||◌, cond, List, eqb, ltb, length, get_or, set}
+use Rattle.std.specs.Prelude.{Result, Ok, Err, ℕ, zero, suc, ◌+◌, ◌*◌, ◌≤◌, ◌<◌, ◌≡◌, Bool, true, not, ◌&&◌, ◌||◌, cond, List, eqb, ltb, length, get_or, set}
 use Rattle.std.proofs.lemmas.List.Edits.{sets}
 use Rattle.notation_calculus.specs.Words.{same_name}
 use Rattle.notation_calculus.specs.Grammar.{most_clauses, cover_all, same_sort}
 use Rattle.words.specs.Next.{run_at}
 use Rattle.making_memory.specs.Map.{clauses_at, clause_count_at, making_size}
+use Rattle.answers.specs.declared.Reason.{Reason}
+use Rattle.answers.specs.Refusals.{reason_number}
 use Rattle.clauses.specs.declared.rows.Row.{Row}
-use Rattle.clauses.specs.Rows.{key_for, row_numbers, ShortRow, row_in}
+use Rattle.clauses.specs.Rows.{key_for, row_numbers, row_in}
 use Rattle.clauses.specs.Numbers.{numbers_from, NumbersThere}
 use Rattle.clauses.specs.Cells.{CellsThere, CellsStored}
 
@@ -44,7 +46,6 @@ unfoldable pub with_row : List ℕ → Row → List ℕ
 with_row work d = set (sets work (clauses_at + 8 * get_or work clause_count_at 0) (row_numbers d)) clause_count_at (get_or work clause_count_at 0 + 1)
 
 -- a row is put behind the table, or refused; its numbers have their cells
-pub record RowAdded (text work : List ℕ) (d : Row) (work' : List ℕ) (r : ℕ) : Type 0 where
-  pub refusal : r ≡ row_refusal text work d
-  pub added : r ≡ 0 → CellsStored text (with_row work d) (get_or work clause_count_at 0) d.numbered d.numbers work'
-  pub same : ¬ (r ≡ 0) → work' ≡ work
+abbrev pub RowAdded : List ℕ → List ℕ → Row → List ℕ → Result (Unit {0}) Reason → Type 0
+RowAdded text work d work' (Ok done) = (0 ≡ row_refusal text work d) × CellsStored text (with_row work d) (get_or work clause_count_at 0) d.numbered d.numbers work'
+RowAdded text work d work' (Err reason) = (reason_number reason ≡ row_refusal text work d) × (0 < reason_number reason) × (work' ≡ work)

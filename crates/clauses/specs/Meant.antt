@@ -1,5 +1,5 @@
 -- The clause that a name means, by rows: Making's `meant`, `clause_for` and `seen_by` as the code reads them. Assumes nothing.
-use Rattle.std.specs.Prelude.{ℕ, zero, suc, ◌+◌, ◌*◌, ◌≤◌, ◌<◌, ◌≡◌, Bool, ◌&&◌, cond, List, [], ◌∷◌, eqb, length, get_or}
+use Rattle.std.specs.Prelude.{ℕ, zero, suc, ◌+◌, ◌*◌, ◌≤◌, Bool, ◌&&◌, cond, List, [], ◌∷◌, eqb, length, get_or}
 use Rattle.notation_calculus.specs.Making.{fit_all, most_entries}
 use Rattle.making_memory.specs.Map.{scope_at, clause_count_at}
 use Rattle.clauses.specs.declared.rows.Row.{Row}

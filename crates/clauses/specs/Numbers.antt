@@ -1,6 +1,5 @@
 -- k, n or n + k at an offset, and lists of them compared. Assumes nothing.
-use Rattle.std.specs.Prelude.{ℕ, ◌≤◌, ◌<◌, ◌≡◌, Bool, true, false, List, [], length, drop}
-use Rattle.calculus.specs.Answer.{good}
+use Rattle.std.specs.Prelude.{ℕ, ◌≤◌, ◌<◌, ◌≡◌, true, false, List, [], length, drop}
 use Rattle.notation_calculus.specs.Words.{Word, run}
 use Rattle.notation_calculus.specs.Trees.{Number}
 use Rattle.notation_calculus.specs.Grammar.{got, behind, number_at}

@@ -2,7 +2,7 @@
 use Rattle.std.specs.Prelude.{ℕ, ◌+◌, ◌*◌, ◌≤◌, ◌<◌, ◌≡◌, Bool, true, false, cond, List, [], ◌∷◌, leb, length, get_or}
 use Rattle.calculus.specs.Answer.{Answer, good}
 use Rattle.notation_calculus.specs.Words.{equals, Word}
-use Rattle.notation_calculus.specs.Trees.{Bound, Number, TypeTree, typed, one, nothing, Body, of_type, Clause}
+use Rattle.notation_calculus.specs.Trees.{Bound, typed, one, nothing, Body, of_type, Clause}
 use Rattle.notation_calculus.specs.Grammar.{Got, got, place, expect, parameters_at, numbers_at, begins_atom, type_body, term_body, clause_at, is_type, most_clauses}
 use Rattle.words.specs.Next.{run_at}
 use Rattle.words.specs.NameKeys.{name_key}

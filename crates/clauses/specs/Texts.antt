@@ -1,13 +1,15 @@
 -- A text's items one by one, with the table of clauses beside them; the whole text. Assumes nothing.
-use Rattle.std.specs.Prelude.{ℕ, ◌+◌, ◌≤◌, ◌<◌, ◌≡◌, Bool, true, false, not, ◌&&◌, cond, List, [], eqb, length, get_or}
-use Rattle.calculus.specs.Answer.{Answer, good, ◌>>=◌, refuse}
-use Rattle.calculus.specs.Terms.{Edition, is_second}
+use Rattle.std.specs.Prelude.{Result, Ok, Err, ℕ, ◌+◌, ◌≤◌, ◌<◌, ◌≡◌, Bool, true, false, not, ◌&&◌, cond, List, [], eqb, length, get_or}
+use Rattle.calculus.specs.Answer.{Answer, good, refused, ◌>>=◌}
+use Rattle.answers.specs.declared.Refusal.{Refusal as Why}
+use Rattle.answers.specs.Refusals.{said_why}
+use Rattle.calculus.specs.Terms.{is_second}
 use Rattle.notation_calculus.specs.Words.{edition, table, type, Word}
-use Rattle.notation_calculus.specs.Trees.{Clause, Line, Text}
-use Rattle.notation_calculus.specs.Grammar.{most_nested, Got, got, peek, behind, place, is, list_from, type_at, clause_at, Items, no_items, with_clause, with_lines, items_from, edition_at, text_of}
+use Rattle.notation_calculus.specs.Trees.{Text}
+use Rattle.notation_calculus.specs.Grammar.{most_nested, Got, got, peek, behind, place, is, list_from, type_at, clause_at, Items, with_clause, with_lines, items_from, text_of}
 use Rattle.words.specs.Tables.{token_value}
 use Rattle.words.specs.Lexed.{from, Lexed}
-use Rattle.grammar.specs.declared.steps.End.{End}
+use Rattle.grammar.specs.Ends.{End}
 use Rattle.making_memory.specs.Map.{clauses_at, frames_at, clause_count_at, second_at_lem, making_size}
 use Rattle.clauses.specs.declared.texts.Whole.{Whole}
 use Rattle.clauses.specs.Rows.{body_at, flag_of, HoldsRows}
@@ -57,12 +59,19 @@ pub record GrownTo (text : List ℕ) (m : Answer (Got Items)) (w : List ℕ) (en
   pub is : m ≡ got items (from text end)
   pub holds : HoldsRows text w items.clauses
 
--- whatever items the table holds, the same is refused, or they grow; what is left is fewer words than b
+-- whatever items the table holds, they grow, and what is left is fewer words than b
+pub record Grows (text : List ℕ) (b : ℕ) (m : Items → Answer (Got Items)) (w w' : List ℕ) (end : ℕ) : Type 0 where
+  pub grows : (items : Items) → HoldsRows text w items.clauses → GrownTo text (m items) w' end
+  pub fewer : length (from text end) < b
+  pub lexed : Lexed text end
+
+-- .. or the same is refused
+abbrev pub ReadsOn : List ℕ → ℕ → (Items → Answer (Got Items)) → List ℕ → List ℕ → End → Type 0
+ReadsOn text b m w w' (Ok end) = Grows text b m w w' end
+ReadsOn text b m w w' (Err why) = (items : Items) → HoldsRows text w items.clauses → m items ≡ refused (said_why why)
+
 pub record Proceeds (text : List ℕ) (b : ℕ) (m : Items → Answer (Got Items)) (w w' : List ℕ) (r : End) : Type 0 where
-  pub refuses : ¬ (r.number ≡ 0) → (items : Items) → HoldsRows text w items.clauses → m items ≡ refuse r.number r.at
-  pub grows : r.number ≡ 0 → (items : Items) → HoldsRows text w items.clauses → GrownTo text (m items) w' r.at
-  pub fewer : r.number ≡ 0 → length (from text r.at) < b
-  pub lexed : r.number ≡ 0 → Lexed text r.at
+  pub says : ReadsOn text b m w w' r
   pub kept : OnlyRows w w'
 
 -- .. in any number of rounds that is not below the number of words
@@ -88,18 +97,25 @@ pub record OnlyClauses (text : List ℕ) (n : ℕ) (items : Items) (start : ℕ)
   pub so_far : SoFar text n items start w at
   pub lines : so_far.done.lines ≡ items.lines
 
--- the definitions from an offset on are read, or refused
+-- the definitions from an offset on are read
+pub record DefinedTo (text : List ℕ) (start : ℕ) (w w' : List ℕ) (end : ℕ) : Type 0 where
+  pub reaches : (n : ℕ) → length (from text start) ≤ n → (items : Items) → HoldsRows text w items.clauses → OnlyClauses text n items start w' end
+  pub low : length (from text end) ≤ length (from text start)
+  pub lexed : Lexed text end
+
+-- .. or all items from there on are refused
+abbrev pub Refuses : List ℕ → ℕ → List ℕ → Why → Type 0
+Refuses text start w why = (n : ℕ) → length (from text start) ≤ n → (items : Items) → HoldsRows text w items.clauses → items_from n items (from text start) ≡ refused (said_why why)
+
+abbrev pub Defines : List ℕ → ℕ → List ℕ → List ℕ → End → Type 0
+Defines text start w w' (Ok end) = DefinedTo text start w w' end
+Defines text start w w' (Err why) = Refuses text start w why
+
 pub record Defined (text : List ℕ) (start : ℕ) (w w' : List ℕ) (r : End) : Type 0 where
-  pub refuses : ¬ (r.number ≡ 0) → (n : ℕ) → length (from text start) ≤ n → (items : Items) → HoldsRows text w items.clauses → items_from n items (from text start) ≡ refuse r.number r.at
-  pub reaches : r.number ≡ 0 → (n : ℕ) → length (from text start) ≤ n → (items : Items) → HoldsRows text w items.clauses → OnlyClauses text n items start w' r.at
-  pub low : r.number ≡ 0 → length (from text r.at) ≤ length (from text start)
-  pub lexed : r.number ≡ 0 → Lexed text r.at
+  pub says : Defines text start w w' r
   pub kept : OnlyRows w w'
 
 -- ---- the whole text
-
-abbrev pub refused_text : ℕ → ℕ → Whole
-refused_text n p = record { number = n; place = p; items = 0; seen = 0 }
 
 -- the items of a text are read: all of them, and again from the first line on
 pub record ItemsTo (text : List ℕ) (n : ℕ) (items : Items) (start : ℕ) (w : List ℕ) (r : Whole) : Type 0 where
@@ -116,9 +132,12 @@ pub record ItemsTo (text : List ℕ) (n : ℕ) (items : Items) (start : ℕ) (w 
   pub count : length done.clauses ≡ r.seen
   pub lines : done.lines ≡ items.lines
 
-pub record ItemsRead (text : List ℕ) (start : ℕ) (w w' : List ℕ) (r : Whole) : Type 0 where
-  pub refuses : ¬ (r.number ≡ 0) → (n : ℕ) → length (from text start) ≤ n → (items : Items) → HoldsRows text w items.clauses → items_from n items (from text start) ≡ refuse r.number r.place
-  pub reads : r.number ≡ 0 → (n : ℕ) → length (from text start) ≤ n → (items : Items) → HoldsRows text w items.clauses → ItemsTo text n items start w' r
+abbrev pub ReadsItems : List ℕ → ℕ → List ℕ → List ℕ → Result Whole Why → Type 0
+ReadsItems text start w w' (Ok r) = (n : ℕ) → length (from text start) ≤ n → (items : Items) → HoldsRows text w items.clauses → ItemsTo text n items start w' r
+ReadsItems text start w w' (Err why) = Refuses text start w why
+
+pub record ItemsRead (text : List ℕ) (start : ℕ) (w w' : List ℕ) (r : Result Whole Why) : Type 0 where
+  pub says : ReadsItems text start w w' r
   pub kept : OnlyRows w w'
 
 -- the second edition is asked for
@@ -145,8 +164,11 @@ pub record TextHeld (text work : List ℕ) (r : Whole) : Type 0 where
   pub count : length done.clauses ≡ r.seen
   pub lines : done.lines ≡ []
 
--- what the pass over a text says: 0 and what the memory holds, or a refusal's number and its place
-pub record TextRead (text w w' : List ℕ) (r : Whole) : Type 0 where
-  pub refuses : ¬ (r.number ≡ 0) → text_of (from text 0) ≡ refuse r.number r.place
-  pub holds : r.number ≡ 0 → TextHeld text w' r
+-- what the pass over a text says: what the memory holds, or a refusal
+abbrev pub ReadsText : List ℕ → List ℕ → Result Whole Why → Type 0
+ReadsText text w' (Ok r) = TextHeld text w' r
+ReadsText text w' (Err why) = text_of (from text 0) ≡ refused (said_why why)
+
+pub record TextRead (text w w' : List ℕ) (r : Result Whole Why) : Type 0 where
+  pub says : ReadsText text w' r
   pub kept : OnlyTable w w'

@@ -40,13 +40,11 @@ pub fn store(text: &[u8], work: &mut [u16], k: usize, at: usize, n: usize)
 {
     let c = cells_in(n);
     let row = making_memory::CELLS + 28 * k;
-    let mut i: usize = 0;
     let mut p = at;
-    while i < c {
+    for i in 0..c {
         let x = numbers::number_behind(text, p);
         work[row + i] = cell_of(x);
         p = x.end;
-        i = i + 1;
     }
     work[row + MOST_CELLS] = p as u16;
 }
@@ -75,13 +73,11 @@ fn cells_fit(work: &[u16], k: usize, n: usize, first: usize) -> bool
     requires { (k < 256) × ((n ≤ most_cells) × ((first + n ≤ most_entries) × (making_size ≤ length work.now))) }
     ensures { result ≡ cells_fit work.now k first 0 n }
 {
-    let mut j: usize = 0;
-    while j < n {
+    for j in 0..n {
         let v = meant::value_of(work, first + j);
         if !fits(cell_at(work, k, j), v) {
             return false;
         }
-        j = j + 1;
     }
     true
 }

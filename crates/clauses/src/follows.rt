@@ -7,6 +7,7 @@ ghost use Rattle.clauses.specs.Follows.{RowThere, row_namesake, row_follows, fol
 
 use crate::rows::Row;
 use crate::{cells, numbers, rows};
+use answers::Reason;
 
 fn same_sort(a: bool, b: bool) -> bool
     ensures { result ≡ same_sort a b }
@@ -69,20 +70,21 @@ fn may_follow_all(text: &[u8], work: &[u16], n: usize, d: Row) -> bool
     true
 }
 
-// 34, then 36; or 0, and the row stands behind the table.
-pub fn with_row(text: &[u8], work: &mut [u16], d: Row) -> u8
+// The row stands behind the table; or 34, then 36.
+#[inline(never)]
+pub fn with_row(text: &[u8], work: &mut [u16], d: Row) -> Result<(), Reason>
     requires { (RowsThere text.now work.old) × ((RowThere text.now d) × ((ShortRow d) × (length text.now ≤ 65535))) }
     ensures { RowAdded text.now work.old d work.new result }
 {
     let n = row_count(work);
     if 256 <= n {
-        return 34;
+        return Err(Reason::TextLimit);
     }
     if !may_follow_all(text, work, n, d) {
-        return 36;
+        return Err(Reason::DefinedAbove);
     }
     rows::store(work, n, d);
     work[making_memory::CLAUSE_COUNT] = n as u16 + 1;
     cells::store(text, work, n, d.numbered, d.numbers);
-    0
+    Ok(())
 }

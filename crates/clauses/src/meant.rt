@@ -47,16 +47,14 @@ pub fn fit_all(text: &[u8], work: &[u16], at: usize, n: usize, first: usize) -> 
     requires { (NumbersThere text.now at n) × ((first + n ≤ most_entries) × (making_size ≤ length work.now)) }
     ensures { result ≡ fit_all (numbers_from text.now at n) (values_in work.now first n) }
 {
-    let mut i: usize = 0;
     let mut p = numbers::first_at(text, at);
-    while i < n {
+    for i in 0..n {
         let k = numbers::number_past(text, p);
         let v = value_of(work, first + i);
         if !fits(k, v) {
             return false;
         }
         p = k.end;
-        i = i + 1;
     }
     true
 }

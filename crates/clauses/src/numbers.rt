@@ -6,7 +6,8 @@ ghost use Rattle.clauses.specs.Numbers.{NumberThere, NumberRead, NumberPast, pla
 
 const PLUS: u8 = 21;
 
-// If it has a name, the name's place or the number's, k, and the offset behind it.
+// If it has a name, the name's place or the number's, k, and the offset behind it: the fields of `Number` in notation_calculus, and each has a meaning
+// with a name and without, so it is no enum.
 #[derive(Clone, Copy)]
 pub struct Num {
     pub named: bool,
@@ -123,10 +124,9 @@ pub fn cover_all(text: &[u8], a: usize, b: usize, n: usize) -> bool
     requires { (NumbersThere text.now a n) × (NumbersThere text.now b n) }
     ensures { result ≡ cover_all (numbers_from text.now a n) (numbers_from text.now b n) }
 {
-    let mut i: usize = 0;
     let mut p = a;
     let mut q = b;
-    while i < n {
+    for _ in 0..n {
         let x = number_behind(text, p);
         let y = number_behind(text, q);
         if !covers(x, y) {
@@ -134,7 +134,6 @@ pub fn cover_all(text: &[u8], a: usize, b: usize, n: usize) -> bool
         }
         p = x.end;
         q = y.end;
-        i = i + 1;
     }
     true
 }

@@ -40,6 +40,7 @@ pub fn key_of(text: &[u8], at: usize, sort: bool) -> usize
 
 // The row of a clause that the grammar has read from an offset up to another. What stands behind it begins with a word: the comments before that are not
 // passed again each time the clause's cost is asked for.
+#[inline(never)]
 pub fn row_of(text: &[u8], at: usize, sort: bool, end: usize) -> Row
     requires { ClauseEnds text.now at sort end }
     ensures { RowRead text.now at sort end result }
@@ -91,14 +92,12 @@ pub fn key_from(work: &[u16], key: usize, k: usize, n: usize) -> usize
     requires { (k ≤ n) × ((n ≤ 256) × (making_size ≤ length work.now)) }
     ensures { KeyFrom work.now key k n result }
 {
-    let mut i = k;
-    while i < n {
+    for i in k..n {
         if key_at(work, i) == key {
             return i;
         }
-        i = i + 1;
     }
-    i
+    n
 }
 
 // Behind the last row above number k that has a key; or 0.
@@ -106,14 +105,12 @@ pub fn key_below(work: &[u16], key: usize, k: usize) -> usize
     requires { (k ≤ 256) × (making_size ≤ length work.now) }
     ensures { KeyBelow work.now key k result }
 {
-    let mut i = k;
-    while 0 < i {
-        if key_at(work, i - 1) == key {
-            return i;
+    for i in (0..k).rev() {
+        if key_at(work, i) == key {
+            return i + 1;
         }
-        i = i - 1;
     }
-    i
+    0
 }
 
 // The offset of row k's name alone.
@@ -125,6 +122,7 @@ pub fn name_at(work: &[u16], k: usize) -> usize
 }
 
 // A clause begins at an offset: rows stand in the order of the text, so each look passes half of those that are left. Only a yes is to be believed.
+// The library's binary search takes a slice of elements in order: names stand eight numbers apart in the working memory, which is one slice of numbers.
 pub fn head_at(work: &[u16], place: usize) -> bool
     requires { (get_or work.now clause_count_at 0 ≤ 256) × (making_size ≤ length work.now) }
     ensures { result ≡ true → HeadAt work.now place }

@@ -5,11 +5,11 @@ ghost use Rattle.words.specs.Lexed.{from, Lexed};
 ghost use Rattle.grammar.specs.Ends.{Ends, rest_of};
 ghost use Rattle.making_memory.specs.Map.{making_size};
 ghost use Rattle.clauses.specs.Rows.{body_at};
-ghost use Rattle.clauses.specs.Texts.{clause_item, item_of, TableHeld, Proceeds, ProceedsIn, defines_by, Defined, refused_text, ItemsRead, says_second, TextRead};
+ghost use Rattle.clauses.specs.Texts.{clause_item, item_of, TableHeld, Proceeds, ProceedsIn, defines_by, Defined, ItemsRead, says_second, TextRead};
 
 use crate::{follows, rows};
+use answers::Refusal;
 use grammar::items;
-use grammar::steps::End;
 
 const TYPE: u8 = 5;
 
@@ -17,18 +17,16 @@ const EDITION: u8 = 6;
 
 const TABLE: u8 = 7;
 
-// A refusal's number and its place; or 0, the place of the text's end, the offset of its first line `table` (its end if it has none), and how
-// many clauses stand above that.
+// The place of a text's end, the offset of its first line `table` (its end if it has none), and how many clauses stand above that.
 #[derive(Clone, Copy)]
 pub struct Whole {
-    pub number: u8,
     pub place: usize,
     pub items: usize,
     pub seen: usize,
 }
 
 // Where a definition of a sort ends.
-fn clause_end(text: &[u8], at: usize, sort: bool) -> End
+fn clause_end(text: &[u8], at: usize, sort: bool) -> Result<usize, Refusal>
     requires { Lexed text.now at }
     ensures { Ends text.now (length (from text.now at)) (rest_of (clause_at (body_at sort) (from text.now at))) result }
 {
@@ -39,26 +37,20 @@ fn clause_end(text: &[u8], at: usize, sort: bool) -> End
 }
 
 // A definition: 32 and 34 of the grammar, then 34 and 36 at its name.
-fn definition(text: &[u8], work: &mut [u16], at: usize, sort: bool) -> End
+#[inline(always)]
+fn definition(text: &[u8], work: &mut [u16], at: usize, sort: bool) -> Result<usize, Refusal>
     requires { (Lexed text.now at) × (TableHeld text.now work.old) }
     ensures { Proceeds text.now (length (from text.now at)) (clause_item sort (from text.now at)) work.old work.new result }
 {
-    let e = clause_end(text, at, sort);
-    if e.number != 0 {
-        return e;
+    let e = clause_end(text, at, sort)?;
+    let d = rows::row_of(text, at, sort, e);
+    if let Err(reason) = follows::with_row(text, work, d) {
+        return Err(reason.at(d.name));
     }
-    let d = rows::row_of(text, at, sort, e.at);
-    let n = follows::with_row(text, work, d);
-    if n != 0 {
-        return End {
-            number: n,
-            at: d.name,
-        };
-    }
-    e
+    Ok(e)
 }
 
-fn item(text: &[u8], work: &mut [u16], at: usize) -> End
+fn item(text: &[u8], work: &mut [u16], at: usize) -> Result<usize, Refusal>
     requires { (Lexed text.now at) × (TableHeld text.now work.old) }
     ensures { Proceeds text.now (length (from text.now at)) (item_of (from text.now at)) work.old work.new result }
 {
@@ -84,39 +76,31 @@ fn defines(kind: u8) -> bool
 
 // The definitions from an offset on, up to the first line `table`. The lines are worked out later, and what stands above them is not read again
 // for that.
-fn definitions(text: &[u8], work: &mut [u16], start: usize) -> End
+fn definitions(text: &[u8], work: &mut [u16], start: usize) -> Result<usize, Refusal>
     requires { (Lexed text.now start) × (TableHeld text.now work.old) }
     ensures { Defined text.now start work.old work.new result }
 {
     let mut at = start;
     let mut w = words::word_at(text, at);
     while defines(w.kind) {
-        let e = item(text, work, at);
-        if e.number != 0 {
-            return e;
-        }
-        at = e.at;
+        at = item(text, work, at)?;
         w = words::word_at(text, at);
     }
-    End { number: 0, at }
+    Ok(at)
 }
 
 // All items from an offset on, up to the text's end.
-fn all_items(text: &[u8], work: &mut [u16], start: usize) -> End
+fn all_items(text: &[u8], work: &mut [u16], start: usize) -> Result<usize, Refusal>
     requires { (Lexed text.now start) × (TableHeld text.now work.old) }
     ensures { ProceedsIn text.now start work.old work.new result }
 {
     let mut at = start;
     let mut w = words::word_at(text, at);
     while w.kind != 0 {
-        let e = item(text, work, at);
-        if e.number != 0 {
-            return e;
-        }
-        at = e.at;
+        at = item(text, work, at)?;
         w = words::word_at(text, at);
     }
-    End { number: 0, at }
+    Ok(at)
 }
 
 // The second edition is asked for.
@@ -132,50 +116,29 @@ fn says_second(text: &[u8]) -> bool
     v.value == 2
 }
 
-fn refused(number: u8, place: usize) -> Whole
-    ensures { result ≡ refused_text number place }
-{
-    Whole {
-        number,
-        place,
-        items: 0,
-        seen: 0,
-    }
-}
-
 // The items of a text from an offset on.
-fn read_items(text: &[u8], work: &mut [u16], start: usize) -> Whole
+fn read_items(text: &[u8], work: &mut [u16], start: usize) -> Result<Whole, Refusal>
     requires { (Lexed text.now start) × (TableHeld text.now work.old) }
     ensures { ItemsRead text.now start work.old work.new result }
 {
-    let d = definitions(text, work, start);
-    if d.number != 0 {
-        return refused(d.number, d.at);
-    }
+    let d = definitions(text, work, start)?;
     let seen = follows::row_count(work);
-    let r = all_items(text, work, d.at);
-    if r.number != 0 {
-        return refused(r.number, r.at);
-    }
-    let w = words::word_at(text, r.at);
-    Whole {
-        number: 0,
+    let r = all_items(text, work, d)?;
+    let w = words::word_at(text, r);
+    Ok(Whole {
         place: w.start,
-        items: d.at,
+        items: d,
         seen,
-    }
+    })
 }
 
 // The whole text: its edition, and its clauses in the table.
-pub fn read(text: &[u8], work: &mut [u16]) -> Whole
+pub fn read(text: &[u8], work: &mut [u16]) -> Result<Whole, Refusal>
     requires { (Lexed text.now 0) × ((length text.now ≤ 65535) × (making_size ≤ length work.old)) }
     ensures { TextRead text.now work.old work.new result }
 {
-    let e = items::edition_end(text, 0);
-    if e.number != 0 {
-        return refused(e.number, e.at);
-    }
+    let e = items::edition_end(text, 0)?;
     work[making_memory::CLAUSE_COUNT] = 0;
     work[making_memory::SECOND] = rows::flag(says_second(text));
-    read_items(text, work, e.at)
+    read_items(text, work, e)
 }

@@ -6,29 +6,41 @@
 ghost use Rattle.std.specs.Prelude.{◌<◌};
 
 use translation::Wish;
-use translator::Answer;
 
-fn wide(x: u8) -> usize
-    ensures { result < 256 }
-{
-    x as usize
+// What a call writes: bytes of the output, numbers of the working memory.
+trait Short: Copy {
+    // The number at place i before a call.
+    fn before(i: usize) -> Self;
+
+    fn value(self) -> u64
+        ensures { result < 65536 };
 }
 
 // Output byte i is i % 251 + 1 before a call.
-fn fill_out(out: &mut [u8]) {
-    let mut i: usize = 0;
-    while i < out.len() {
-        out[i] = (i % 251 + 1) as u8;
-        i = i + 1;
+impl Short for u8 {
+    fn before(i: usize) -> u8 {
+        (i % 251 + 1) as u8
+    }
+
+    fn value(self) -> u64 {
+        u64::from(self)
     }
 }
 
 // Memory number i is i % 65521 + 1 before a call.
-fn fill_work(work: &mut [u16]) {
-    let mut i: usize = 0;
-    while i < work.len() {
-        work[i] = (i % 65521 + 1) as u16;
-        i = i + 1;
+impl Short for u16 {
+    fn before(i: usize) -> u16 {
+        (i % 65521 + 1) as u16
+    }
+
+    fn value(self) -> u64 {
+        u64::from(self)
+    }
+}
+
+fn fill<T: Short>(numbers: &mut [T]) {
+    for (i, number) in numbers.iter_mut().enumerate() {
+        *number = T::before(i);
     }
 }
 
@@ -40,22 +52,10 @@ fn step(sum: u64, x: u64) -> u64
     (sum * 257 + x + 1) % 4294967291
 }
 
-fn sum_out(out: &[u8]) -> u64 {
+fn sum<T: Short>(numbers: &[T]) -> u64 {
     let mut sum: u64 = 0;
-    let mut i: usize = 0;
-    while i < out.len() {
-        sum = step(sum, out[i] as u64);
-        i = i + 1;
-    }
-    sum
-}
-
-fn sum_work(work: &[u16]) -> u64 {
-    let mut sum: u64 = 0;
-    let mut i: usize = 0;
-    while i < work.len() {
-        sum = step(sum, work[i] as u64);
-        i = i + 1;
+    for number in numbers {
+        sum = step(sum, number.value());
     }
     sum
 }
@@ -65,14 +65,14 @@ fn fields(number: u8, value: usize, out: &[u8], work: &[u16]) {
     io::write_all(1, b" ");
     io::print_decimal(1, value as u64);
     io::write_all(1, b" ");
-    io::print_decimal(1, sum_out(out));
+    io::print_decimal(1, sum(out));
     io::write_all(1, b" ");
-    io::print_decimal(1, sum_work(work));
+    io::print_decimal(1, sum(work));
 }
 
 // One call, and what it leaves. The output is filled before, and what the call has written is filled again. The length or the place.
 fn call(sheet: &[u8], out: &mut [u8], work: &mut [u16], lean: bool) -> usize {
-    fill_work(work);
+    fill(work);
     match translation::translate(
         sheet,
         out,
@@ -83,15 +83,14 @@ fn call(sheet: &[u8], out: &mut [u8], work: &mut [u16], lean: bool) -> usize {
             card: false,
         },
     ) {
-        Answer::Written(n) => {
+        Ok(n) => {
             fields(0, n, out, work);
-            fill_out(&mut out[..n]);
+            fill(&mut out[..n]);
             n
         }
-        Answer::Refused(r) => {
-            let place = r.place;
-            fields(r.number, place, out, work);
-            place
+        Err(why) => {
+            fields(why.reason.number(), why.place, out, work);
+            why.place
         }
     }
 }
@@ -130,9 +129,9 @@ fn case(sheet: &mut [u8], out: &mut [u8], work: &mut [u16]) -> bool {
     if n < 6 {
         return false;
     }
-    let room = wide(head[0]) + 256 * wide(head[1]);
-    let memory = wide(head[2]) + 256 * wide(head[3]);
-    let length = wide(head[4]) + 256 * wide(head[5]);
+    let room = u16::from_le_bytes([head[0], head[1]]) as usize;
+    let memory = u16::from_le_bytes([head[2], head[3]]) as usize;
+    let length = u16::from_le_bytes([head[4], head[5]]) as usize;
     if out.len() < room {
         return false;
     }
@@ -147,12 +146,10 @@ fn case(sheet: &mut [u8], out: &mut [u8], work: &mut [u16]) -> bool {
 }
 
 fn cases(sheet: &mut [u8], out: &mut [u8], work: &mut [u16]) {
-    let mut left: usize = 1000000;
-    while 0 < left {
+    for _ in 0..1000000 {
         if !case(sheet, out, work) {
             return;
         }
-        left = left - 1;
     }
 }
 
@@ -160,6 +157,6 @@ fn main() {
     let mut sheet = [0u8; 16387];
     let mut out = [0u8; 41344];
     let mut work = [0u16; 32770];
-    fill_out(&mut out);
+    fill(&mut out);
     cases(&mut sheet, &mut out, &mut work);
 }

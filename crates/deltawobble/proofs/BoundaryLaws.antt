@@ -19,8 +19,9 @@ use Rattle.sheet_theorems.proofs.StretchHolds.{stretch-holds, stretch-past, stre
 use Rattle.sheet_theorems.proofs.Judging.{Judged, value, refusal, Any}
 use Rattle.sheet.proofs.StretchLaws.{stretch-within}
 use Rattle.answers.specs.Word.{packed, FitsWord}
-use Rattle.translator.specs.Said.{said_answer, refused_as_lem, called}
-use Rattle.translator.specs.declared.Answer as code
+use Rattle.translator.specs.Said.{said_answer, called}
+use Rattle.std.specs.Prelude.{Result, Ok, Err}
+use Rattle.answers.specs.declared.Refusal.{Refusal}
 use Rattle.translator.proofs.Places.{names_small}
 use Rattle.answers.proofs.WordLaws.{word_tells}
 use Rattle.export_calculus.specs.CardCall.{card_call}
@@ -31,14 +32,11 @@ use Rattle.batch_calculus.specs.Batch.{Batch}
 use Rattle.batch.specs.Left.{left}
 use Rattle.trace_calculus.specs.Lanes.{LanesCall}
 use Rattle.trace.specs.Said.{lanes_called}
-use Rattle.translator.specs.declared.Answer.TheVariants as answer
 use Rattle.foreign_calculus.specs.Foreign.{Bytes, check, Checked, check_call}
 use Rattle.foreign_theorems.proofs.Places.{CheckPlace, check-places}
 use Rattle.back_calculus.specs.Returned.{back_call}
 use Rattle.back.proofs.Places.{back-places, back_fits}
 use Rattle.foreign.specs.Walk.{said_check, called_check as checked}
-use Rattle.foreign.specs.declared.Verdict.{Verdict}
-use Rattle.foreign.specs.declared.Verdict.TheVariants as verdict
 use Rattle.deltawobble.specs.Boundary.{Packs, PacksBatch, checked_value, PacksCheck, PacksLanes, PacksNever, PacksMake}
 use Rattle.never_calculus.specs.Search.{NeverCall}
 use Rattle.notation_calculus.specs.Make.{MakeCall, make_call}
@@ -51,14 +49,14 @@ use Rattle.never.specs.Told.{called_never}
 -- ---- a call
 
 -- an answer, packed, with what it leaves, is what the definition says
-pub answer_packs : (r : code.Answer) (o w : List ℕ) (c : Call) → called r o w ≡ c → Packs (packed (said_answer r)) o w c
+pub answer_packs : (r : Result ℕ Refusal) (o w : List ℕ) (c : Call) → called r o w ≡ c → Packs (packed (said_answer r)) o w c
 answer_packs r o w c e = record {
   said = ap (λ (x : Call). packed x.said) e;
   wrote = ap (λ (x : Call). x.out) e;
   kept = ap (λ (x : Call). x.work) e;
 }
 
-pub make_packs : (r : code.Answer) (o p w : List ℕ) (c : MakeCall) → called_make r o p w ≡ c → PacksMake (packed (said_answer r)) o p w c
+pub make_packs : (r : Result ℕ Refusal) (o p w : List ℕ) (c : MakeCall) → called_make r o p w ≡ c → PacksMake (packed (said_answer r)) o p w c
 make_packs r o p w c e = record {
   said = ap (λ (x : MakeCall). packed x.said) e;
   wrote = ap (λ (x : MakeCall). x.out) e;
@@ -66,14 +64,14 @@ make_packs r o p w c e = record {
   kept = ap (λ (x : MakeCall). x.work) e;
 }
 
-pub never_packs : (r : code.Answer) (o w t q : List ℕ) (c : NeverCall) → called_never r o w t q ≡ c → PacksNever (packed (said_answer r)) o w t q c
+pub never_packs : (r : Result ℕ Refusal) (o w t q : List ℕ) (c : NeverCall) → called_never r o w t q ≡ c → PacksNever (packed (said_answer r)) o w t q c
 never_packs r o w t q c e = record {
   packs = answer_packs r o w c.call (ap (λ (x : NeverCall). x.call) e);
   left_trail = ap (λ (x : NeverCall). x.trail) e;
   left_queue = ap (λ (x : NeverCall). x.queue) e;
 }
 
-pub batch_packs : (r : code.Answer) (o p w : List ℕ) (b : Batch) → left r o p w ≡ b → PacksBatch (packed (said_answer r)) o p w b
+pub batch_packs : (r : Result ℕ Refusal) (o p w : List ℕ) (b : Batch) → left r o p w ≡ b → PacksBatch (packed (said_answer r)) o p w b
 batch_packs r o p w b e = record {
   said = ap (λ (x : Batch). packed x.said) e;
   wrote = ap (λ (x : Batch). x.out) e;
@@ -81,7 +79,7 @@ batch_packs r o p w b e = record {
   kept = ap (λ (x : Batch). x.work) e;
 }
 
-pub lanes_packs : (r : code.Answer) (o s w : List ℕ) (c : LanesCall) → lanes_called r o s w ≡ c → PacksLanes (packed (said_answer r)) o s w c
+pub lanes_packs : (r : Result ℕ Refusal) (o s w : List ℕ) (c : LanesCall) → lanes_called r o s w ≡ c → PacksLanes (packed (said_answer r)) o s w c
 lanes_packs r o s w c e = record {
   said = ap (λ (x : LanesCall). packed x.said) e;
   wrote = ap (λ (x : LanesCall). x.out) e;
@@ -90,17 +88,17 @@ lanes_packs r o s w c e = record {
 }
 
 -- a verdict, as an answer that every call can give
-abbrev pub verdict_answer : Verdict → code.Answer
-verdict_answer verdict.Accepted = answer.Written 0
-verdict_answer (verdict.Refused number place) = refused_as_lem number place
+abbrev pub verdict_answer : Result (Unit {0}) Refusal → Result ℕ Refusal
+verdict_answer (Ok done) = Ok 0
+verdict_answer (Err r) = Err r
 
-same-value : (v : Verdict) → said_answer (verdict_answer v) ≡ checked_value (said_check v)
-same-value verdict.Accepted = refl
-same-value (verdict.Refused number place) = refl
+same-value : (v : Result (Unit {0}) Refusal) → said_answer (verdict_answer v) ≡ checked_value (said_check v)
+same-value (Ok done) = refl
+same-value (Err r) = refl
 
-pub check_packs : (v : Verdict) (w : List ℕ) (c : Checked) (a : code.Answer) → checked v w ≡ c → verdict_answer v ≡ a → PacksCheck (packed (said_answer a)) w c
+pub check_packs : (v : Result (Unit {0}) Refusal) (w : List ℕ) (c : Checked) (a : Result ℕ Refusal) → checked v w ≡ c → verdict_answer v ≡ a → PacksCheck (packed (said_answer a)) w c
 check_packs v w c a e f = record {
-  said = ap (λ (x : code.Answer). packed (said_answer x)) (sym f) ∙ ap packed (same-value v) ∙ ap (λ (x : Checked). packed (checked_value x.said)) e;
+  said = ap (λ (x : Result ℕ Refusal). packed (said_answer x)) (sym f) ∙ ap packed (same-value v) ∙ ap (λ (x : Checked). packed (checked_value x.said)) e;
   kept = ap (λ (x : Checked). x.work) e;
 }
 

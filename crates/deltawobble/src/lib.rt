@@ -14,9 +14,7 @@ ghost use Rattle.back_calculus.specs.Returned.{back_call};
 ghost use Rattle.notation_calculus.specs.Make.{make_call};
 ghost use Rattle.deltawobble.specs.Boundary.{Packs, PacksBatch, PacksLanes, PacksCheck, PacksNever, PacksMake, packed_stretch};
 
-use foreign::Verdict;
 use translation::Wish;
-use translator::Answer;
 
 // The netlist of a sheet. Bits 0 to 31 of the answer are the number of bytes written or the place, 32 to 39 the refusal's number, 0 for none,
 // 40 to 51 the type number wanted and 52 to 63 the one found.
@@ -68,12 +66,13 @@ pub extern "C" fn deltawobble_check(net: &[u8], work: &mut [u16], lean: bool) ->
     ensures { PacksCheck result work.new (check_call lean net.now work.old) }
 {
     match foreign::check(net, work, lean) {
-        Verdict::Accepted => translator::word(Answer::Written(0)),
-        Verdict::Refused(number, place) => translator::word(translator::refused(number, place)),
+        Ok(()) => translator::word(Ok(0)),
+        Err(refusal) => translator::word(Err(refusal)),
     }
 }
 
-// A recorded trace run through the lean netlist of a sheet; the answer likewise.
+// A recorded trace run through the lean netlist of a sheet; the answer likewise. This and the next are two functions, since their names and
+// arguments are the C interface.
 #[unsafe(no_mangle)]
 pub extern "C" fn deltawobble_run(
     sheet: &[u8],

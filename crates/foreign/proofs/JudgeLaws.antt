@@ -8,7 +8,10 @@ use native.Mathlib.Decide.{dec_le, ℕ_discrete}
 use lib.ListN.{length, get_or, drop}
 use lib.Seq.{drop-drop}
 use borrow.Author.Tests.{eq-eqb, ne_eqb, le-leb, lt-leb}
-use Rattle.calculus.specs.Answer.{Answer, good, refuse}
+use Rattle.std.specs.Prelude.{Result, Ok, Err}
+use Rattle.calculus.specs.Answer.{Answer, good, refused, refuse}
+use Rattle.answers.specs.Refusals.{said_why}
+use Rattle.answers.specs.declared.Refusal.{Refusal}
 use Rattle.calculus.specs.Net.{Net}
 use Rattle.calculus.specs.Inputs.{ins, made_at_lem, targets, is_out}
 use Rattle.circuit_theorems.specs.Formed.{Rising}
@@ -22,8 +25,6 @@ use Rattle.foreign_theorems.proofs.Sound.{read_none, read_all, numbered-rising, 
 use Rattle.circuit_theorems.proofs.NetRead.{out_not_made}
 use Rattle.foreign.specs.Table.{TableHolds, LaterKept, TableClear}
 use Rattle.foreign.specs.Walk.{WalkAgrees}
-use Rattle.foreign.specs.declared.Walked.{Walked}
-use Rattle.foreign.specs.declared.Walked.TheVariants as walked
 use Rattle.foreign.proofs.SimLaws.{cell_out, cell_in, cell_no}
 
 one_all : (m : Net) (k i : ℕ) → ((j : ℕ) → i ≤ j → j < i + k → OneFeed m j) → one_each k i m ≡ good tt
@@ -81,14 +82,14 @@ module _ (lean : Bool) (s : List ℕ) (τ : Reading) (r : ReadAs lean s τ) (w :
 
 -- ---- the whole
 
-module _ (lean : Bool) (s : List ℕ) (b : Bytes s) (r : Walked) (w : List ℕ) (a : WalkAgrees r w (read_on (length s) lean s 0 begin)) where
-  pub judged_off : (n p : ℕ) → r ≡ walked.Refused n p → refuse n p ≡ check lean s
+module _ (lean : Bool) (s : List ℕ) (b : Bytes s) (r : Result ℕ Refusal) (w : List ℕ) (a : WalkAgrees r w (read_on (length s) lean s 0 begin)) where
+  pub judged_off : (why : Refusal) → r ≡ Err why → refused (said_why why) ≡ check lean s
   unfolding check
-  judged_off n p e = let q = subst (λ (x : Walked). WalkAgrees x w (read_on (length s) lean s 0 begin)) e a in rw q
+  judged_off why e = let q = subst (λ (x : Result ℕ Refusal). WalkAgrees x w (read_on (length s) lean s 0 begin)) e a in rw q
 
-  module _ (n : ℕ) (e : r ≡ walked.Done n) where
-    ended : WalkAgrees (walked.Done n) w (read_on (length s) lean s 0 begin)
-    ended = subst (λ (x : Walked). WalkAgrees x w (read_on (length s) lean s 0 begin)) e a
+  module _ (n : ℕ) (e : r ≡ Ok n) where
+    ended : WalkAgrees (Ok n) w (read_on (length s) lean s 0 begin)
+    ended = subst (λ (x : Result ℕ Refusal). WalkAgrees x w (read_on (length s) lean s 0 begin)) e a
 
     whole : ReadAs lean s ended.0
     whole = read_all lean s b (length s) 0 begin ended.0 (omega arith) (omega arith) (read_none lean) ended.1
@@ -96,9 +97,9 @@ module _ (lean : Bool) (s : List ℕ) (b : Bytes s) (r : Walked) (w : List ℕ) 
     pub judged_low : n ≤ 8192
     judged_low = omega (arith, ended.2, whole.few)
 
-    pub judged-good : (i : ℕ) → n ≤ i → ((k : ℕ) → k < i → get_or w k 0 % 2 ≡ 1 → ⊥) → good tt ≡ check lean s
+    pub judged-good : ((k : ℕ) → k < n → get_or w k 0 % 2 ≡ 1 → ⊥) → good tt ≡ check lean s
     unfolding check
-    judged-good i l f =
+    judged-good f =
         let g = ended.2 in
         rw ended.1 (sym (one_all ended.0.net ended.0.next 0 (λ j c d. even-one lean s ended.0 whole w ended.3 j (omega (arith, judged_low)) (f j (omega arith)))))
 

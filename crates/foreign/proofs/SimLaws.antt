@@ -18,7 +18,6 @@ use Rattle.calculus.specs.Inputs.{tally, ins, made_at_lem, targets, is_out}
 use Rattle.circuit_theorems.specs.Formed.{Rising}
 use Rattle.circuit_theorems.proofs.Terminals.{out_high, made-high}
 use Rattle.circuit_theorems.proofs.Drivers.{made-append, targets-append}
-use Rattle.calculus.specs.NetRead.{item}
 use Rattle.memory.specs.Map.{memory_size}
 use Rattle.foreign_calculus.specs.Foreign.{Reading, first_of, past_of, starts, is_in, more_element, more_wire, more_pin, judge}
 use Rattle.foreign_calculus.specs.Refused.{ReadAs}
@@ -334,7 +333,7 @@ module _ (lean : Bool) (at : ℕ) (p : List ℕ) (σ : Reading) (w : List ℕ) (
       rw (none-test t, out-test t)
       (pin-by (is_out es t) (is_in es t) (more_pin t σ) (driven w t) σ.next (λ u. let r = pin-holds t (is_out es t) refl u in (refl, refl, r.0, r.1)))
 
-  pub sim : (r : Item) → Matches at (took lean σ.stage σ.next (item r) w) (judge lean r σ at) w
+  pub sim : (r : Item) → Matches at (took lean σ.stage σ.next r w) (judge lean r σ at) w
   sim (element (point i)) = sim-element (point i)
   sim (element (part q i)) = sim-element (part q i)
   sim (wire x) = sim-wire x

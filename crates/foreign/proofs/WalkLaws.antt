@@ -4,39 +4,52 @@ use mathlib.Core.Path.{◌≡◌, refl, sym, ap, ap₂, ◌∙◌, subst}
 use mathlib.Core.Bool.{Bool}
 use mathlib.Core.List.{List}
 use native.Mathlib.Omega.{arith}
+use native.Mathlib.Decide.{dec_lt}
 use lib.ListN.{length, take}
+use Rattle.std.specs.Prelude.{Option, Some, None, Result, Ok, Err, MatchResult, IsErrAnd}
+use Rattle.std.proofs.lemmas.Result.{err_from_is_err_and}
 use Rattle.calculus.specs.Answer.{Answer, good, refused, refuse, ◌>>=◌}
 use Rattle.calculus.specs.Net.{Item}
 use Rattle.calculus.specs.NetRead.{Front, item, ended, broken, item_at, item_size}
 use Rattle.memory.specs.Map.{memory_size}
+use Rattle.answers.specs.Refusals.{refusal_at, said_why}
+use Rattle.answers.specs.declared.Reason.{Reason}
+use Rattle.answers.specs.declared.Refusal.{Refusal}
 use Rattle.foreign_calculus.specs.Foreign.{Reading, begin, judge, on_front, read_on, Bytes}
 use Rattle.foreign_theorems.proofs.Standing.{Stood, item-stood, ended-stood}
 use Rattle.circuit_theorems.proofs.NetRead.{item_some, ends-here}
 use Rattle.foreign_calculus.specs.Refused.{ReadAs}
 use Rattle.foreign_theorems.proofs.Sound.{read_more, read_none, more-taken}
-use Rattle.net_reader.specs.Said.{said_record, front_size, SaidStep}
+use Rattle.net_reader.specs.Said.{said_record, said_step, stepped}
 use Rattle.net_reader.specs.declared.Step.{Step}
+use Rattle.net_reader.proofs.Steps.{step_some, step_none, step_off}
 use Rattle.foreign.specs.Table.{cell_of, TableHolds, LaterKept, TableClear}
-use Rattle.foreign.specs.Take.{Took, next, wrong, said_taken, took}
-use Rattle.foreign.specs.Walk.{Gone, on, off, said_went, gone_to}
-use Rattle.foreign.specs.declared.Went.{Went}
-use Rattle.foreign.specs.declared.Went.TheVariants as went
+use Rattle.foreign.specs.Take.{Took, next, wrong, stage_of, said_taken, took}
 use Rattle.foreign.specs.declared.take.State.{State}
-use Rattle.foreign.specs.declared.take.Taken.{Taken}
-use Rattle.foreign.specs.declared.take.Taken.TheVariants as taken
 use Rattle.foreign.proofs.SimLaws.{Matches, sim, keeps_same}
 
--- ---- one record
+-- ---- an error that is mapped
 
-module _ (x : Step) (s : List ℕ) (lean : Bool) (stage n at : ℕ) (t : Taken) (w v : List ℕ) (e : SaidStep x s at) (h : said_taken t v ≡ took lean stage n (said_record x.found) w) where
-  took-there : {y : Taken} → t ≡ y → said_taken y v ≡ took lean stage n (item_at s at) w
-  took-there g = ap (λ (z : Taken). said_taken z v) (sym g) ∙ h ∙ ap (λ (z : Front). took lean stage n z w) e.found_is
+ok_no : {T D : Type 0} {y : T} {d : D} → ◌≡◌ {A = Result T D} (Ok y) (Err d) → ⊥
+ok_no e = let z : ◌≡◌ {A = ℕ} 0 1 = cc in omega arith
 
-  pub one_on : (u : State) → t ≡ taken.Next u → on u.stage u.next x.past v ≡ gone_to (took lean stage n (item_at s at) w) (at + front_size (item_at s at))
-  one_on u g = ap₂ gone_to (took-there g) e.past_is
+module _ {T E D : Type 0} (P : E → D → Type 0) where
+  pub mapped_ok : (r : Result T E) {m : Result T D} {y : T} → MatchResult r (λ x. m ≡ Ok x) (λ e. IsErrAnd m (P e)) → m ≡ Ok y → r ≡ Ok y
+  mapped_ok (Ok x) {m} {y} z q = ap Ok (ok-inj (sym z ∙ q))
+    where
+      ok-inj : {u v : T} → ◌≡◌ {A = Result T D} (Ok u) (Ok v) → u ≡ v
+      ok-inj e = cc
+  mapped_ok (Err e) {m} z q = absurd (let f = err_from_is_err_and m z in ok_no (sym q ∙ f.1))
 
-  pub one_off : (k : ℕ) → t ≡ taken.Refused k → off k v ≡ gone_to (took lean stage n (item_at s at) w) (at + front_size (item_at s at))
-  one_off k g = ap (λ (y : Took). gone_to y (at + front_size (item_at s at))) (took-there g)
+  pub mapped_err : (r : Result T E) {m : Result T D} {d : D} → MatchResult r (λ x. m ≡ Ok x) (λ e. IsErrAnd m (P e)) → m ≡ Err d → (e : E) × (r ≡ Err e) × P e d
+  mapped_err (Ok x) z q = absurd (ok_no (sym z ∙ q))
+  mapped_err (Err e) {m} {d} z q =
+      let f = err_from_is_err_and m z in
+      let h : f.0 ≡ d = err-inj (sym f.1 ∙ q) in
+      (e, refl, subst (P e) h f.2)
+    where
+      err-inj : {x y : D} → ◌≡◌ {A = Result T D} (Err x) (Err y) → x ≡ y
+      err-inj e = cc
 
 -- ---- all records
 
@@ -69,22 +82,22 @@ going_first lean s w c = record {
 keeps_on : (u v w : List ℕ) → LaterKept u v → LaterKept v w → LaterKept u w
 keeps_on u v w a b = record { same = b.same ∙ a.same; later = b.later ∙ a.later }
 
-module _ (lean : Bool) (s w₀ w : List ℕ) (b : Bytes s) (size : memory_size ≤ length w₀) (stage n at : ℕ) (g : WalkGoing lean s w₀ w stage n at) (l : at < length s) where
+module _ (lean : Bool) (s w₀ w : List ℕ) (b : Bytes s) (size : memory_size ≤ length w₀) (stage n at : ℕ) (g : WalkGoing lean s w₀ w stage n at) where
   abbrev σ : Reading
   σ = g.reading
 
   abbrev All' : Answer Reading
   All' = read_on (length s) lean s 0 begin
 
-  -- what a step comes to: the walk goes on, or the definition refuses here
-  abbrev Comes : Took → ℕ → Type 0
+  -- what a record comes to: the walk goes on, or the definition refuses here
+  abbrev pub Comes : Took → ℕ → Type 0
   Comes (next a c v) m = WalkGoing lean s w₀ v a c m × (at < m)
   Comes (wrong k v) m = (All' ≡ refuse k at) × LaterKept w₀ v
 
-  opened : (left : ℕ) → length s ≤ at + left → read_on left lean s at σ ≡ All'
+  opened : at < length s → (left : ℕ) → length s ≤ at + left → read_on left lean s at σ ≡ All'
       → (k : ℕ) × (length s ≤ at + suc k) × (on_front (item_at s at) at σ (λ r. judge lean r σ at >>= λ τ. read_on k lean s (at + item_size r) τ) ≡ All')
-  opened zero e q = absurd (omega arith)
-  opened (suc k) e q = (k, e, q)
+  opened l zero e q = absurd (omega arith)
+  opened l (suc k) e q = (k, e, q)
 
   item-step : (r : Item) → Stood s at r → (k : ℕ) → length s ≤ at + suc k → (y : Took) (a : Answer Reading) → judge lean r σ at ≡ a → (a >>= λ τ. read_on k lean s (at + item_size r) τ) ≡ All' → Matches at y a w
       → Comes y (at + item_size r)
@@ -107,29 +120,28 @@ module _ (lean : Bool) (s w₀ w : List ℕ) (b : Bytes s) (size : memory_size �
   item-step r st k e (next x c v) (refused why) j p m = absurd m
   item-step r st k e (wrong x v) (good τ) j p m = absurd m
 
-  step : (x : Front) → item_at s at ≡ x → Comes (took lean σ.stage σ.next x w) (at + front_size x)
-  step (item r) q =
+  -- a record stands here
+  pub taken_here : (r : Item) → item_at s at ≡ item r → Comes (took lean stage n r w) (at + item_size r)
+  taken_here r q =
       let z = g.keeps.same in
-      let o = opened g.left g.enough g.rest in
+      let st = item-stood s b at r q in
+      let o = opened (omega (arith, st.room, item_some r)) g.left g.enough g.rest in
       let p = subst (λ (x : Front). on_front x at σ (λ r. judge lean r σ at >>= λ τ. read_on o.0 lean s (at + item_size r) τ) ≡ All') q o.2 in
-      item-step r (item-stood s b at r q) o.0 o.1 (took lean σ.stage σ.next (item r) w) (judge lean r σ at) refl p (sim lean at (take at s) σ w (omega arith) g.before g.holds r)
-  step ended q = absurd (omega (arith, ended-stood s at q))
-  step broken q =
-      let o = opened g.left g.enough g.rest in
-      (sym (subst (λ (x : Front). on_front x at σ (λ r. judge lean r σ at >>= λ τ. read_on o.0 lean s (at + item_size r) τ) ≡ All') q o.2), g.keeps)
+      subst (λ (y : Took). Comes y (at + item_size r)) (ap₂ (λ (x y : ℕ). took lean x y r w) (sym g.stage_is) (sym g.next_is))
+      (item-step r st o.0 o.1 (took lean σ.stage σ.next r w) (judge lean r σ at) refl p (sim lean at (take at s) σ w (omega arith) g.before g.holds r))
 
-  abbrev pub Leads : Gone → Type 0
-  Leads (on a c m v) = WalkGoing lean s w₀ v a c m × (at < m)
-  Leads (off k v) = (read_on (length s) lean s 0 begin ≡ refuse k at) × LaterKept w₀ v
+  broken_no : broken ≡ ended → ⊥
+  broken_no e = let z : ◌≡◌ {A = ℕ} 0 1 = cc in omega arith
 
-  leads : (y : Took) (m : ℕ) → Comes y m → Leads (gone_to y m)
-  leads (next a c v) m r = r
-  leads (wrong k v) m r = r
-
-  pub gone : Leads (gone_to (took lean stage n (item_at s at) w) (at + front_size (item_at s at)))
-  gone =
-      subst (λ (y : Took). Leads (gone_to y (at + front_size (item_at s at)))) (ap₂ (λ (x y : ℕ). took lean x y (item_at s at) w) (sym g.stage_is) (sym g.next_is))
-      (leads (took lean σ.stage σ.next (item_at s at) w) (at + front_size (item_at s at)) (step (item_at s at) refl))
+  -- no record stands here
+  pub broken_here : item_at s at ≡ broken → All' ≡ refuse 21 at
+  broken_here q =
+      elim (dec_lt at (length s)) [
+        | yes l ↦
+            let o = opened l g.left g.enough g.rest in
+            sym (subst (λ (x : Front). on_front x at σ (λ r. judge lean r σ at >>= λ τ. read_on o.0 lean s (at + item_size r) τ) ≡ All') q o.2)
+        | no l ↦ absurd (broken_no (sym q ∙ ends-here s at (omega arith)))
+      ]
 
 -- at the end of the bytes
 pub going_done : {lean : Bool} {s w₀ w : List ℕ} {stage n at : ℕ} (g : WalkGoing lean s w₀ w stage n at) → length s ≤ at
@@ -140,12 +152,31 @@ going_done {lean} {s} {at = at} g l = (g.reading, sym g.rest ∙ ended_on g.left
     ended_on zero = refl
     ended_on (suc k) = rw (ends-here s at l)
 
--- ---- the code's own step
+-- ---- the code's own steps
 
-module _ {lean : Bool} {s w₀ w : List ℕ} {stage n at : ℕ} (b : Bytes s) (size : memory_size ≤ length w₀) (g : WalkGoing lean s w₀ w stage n at) (l : at < length s) (r : Went) (v : List ℕ)
-    (h : said_went r v ≡ gone_to (took lean stage n (item_at s at) w) (at + front_size (item_at s at))) where
-  pub walk_on : {t : State} {m : ℕ} → r ≡ went.On t m → WalkGoing lean s w₀ v t.stage t.next m × (at < m)
-  walk_on e = subst (Leads lean s w₀ w b size stage n at g l) (sym h ∙ ap (λ (y : Went). said_went y v) e) (gone lean s w₀ w b size stage n at g l)
+module _ {lean : Bool} {s w₀ w : List ℕ} {stage n at : ℕ} (b : Bytes s) (size : memory_size ≤ length w₀) (g : WalkGoing lean s w₀ w stage n at) (r : Result (Option Step) Refusal)
+    (h : said_step r ≡ stepped (item_at s at) at) where
+  module _ (x : Step) (e : r ≡ Ok (Some x)) where
+    found : (item_at s at ≡ item (said_record x.found)) × (x.past ≡ at + item_size (said_record x.found))
+    found = step_some (item_at s at) at (ap said_step (sym e) ∙ h)
 
-  pub walk-off : {k : ℕ} → r ≡ went.Refused k → (read_on (length s) lean s 0 begin ≡ refuse k at) × LaterKept w₀ v
-  walk-off e = subst (Leads lean s w₀ w b size stage n at g l) (sym h ∙ ap (λ (y : Went). said_went y v) e) (gone lean s w₀ w b size stage n at g l)
+    pub walk_room : x.past ≤ length s
+    walk_room = let st = item-stood s b at (said_record x.found) found.0 in omega (arith, st.room, found.1)
+
+    module _ (t : Result State Reason) (v : List ℕ) (u : said_taken t v ≡ took lean stage n (said_record x.found) w) where
+      comes : Comes lean s w₀ w b size stage n at g (said_taken t v) x.past
+      comes = rw (u, found.1) (taken_here lean s w₀ w b size stage n at g (said_record x.found) found.0)
+
+      pub walk_on : {y : State} → t ≡ Ok y → WalkGoing lean s w₀ v (stage_of y.stage) y.next x.past × (at < x.past)
+      walk_on q = subst (λ (z : Result State Reason). Comes lean s w₀ w b size stage n at g (said_taken z v) x.past) q comes
+
+      pub walk-off : {y : Reason} → t ≡ Err y → (read_on (length s) lean s 0 begin ≡ refused (said_why (refusal_at y at))) × LaterKept w₀ v
+      walk-off q = subst (λ (z : Result State Reason). Comes lean s w₀ w b size stage n at g (said_taken z v) x.past) q comes
+
+  pub walk_broken : {why : Refusal} → r ≡ Err why → read_on (length s) lean s 0 begin ≡ refused (said_why why)
+  walk_broken e =
+      let f = step_off (item_at s at) at (ap said_step (sym e) ∙ h) in
+      broken_here lean s w₀ w b size stage n at g f.0 ∙ ap refused (sym f.1)
+
+  pub walk_ended : r ≡ Ok None → length s ≤ at
+  walk_ended e = ended-stood s at (step_none (item_at s at) at (ap said_step (sym e) ∙ h))

@@ -1,22 +1,29 @@
 -- One record behind those that were read, by the table. Assumes nothing.
-use Rattle.std.specs.Prelude.{ℕ, ◌+◌, Bool, cond, List, leb, eqb}
+use Rattle.std.specs.Prelude.{ℕ, ◌+◌, Bool, cond, List, leb, eqb, Result, Ok, Err}
 use Rattle.std.proofs.lemmas.List.Edits.{sets}
 use Rattle.calculus.specs.Terms.{part_at}
-use Rattle.calculus.specs.Net.{point, part, element, wire, pin}
-use Rattle.calculus.specs.NetRead.{Front, item, ended, broken}
+use Rattle.calculus.specs.Net.{point, part, Item, element, wire, pin}
+use Rattle.answers.specs.Refusals.{reason_number}
+use Rattle.answers.specs.declared.Reason.{Reason}
 use Rattle.foreign_calculus.specs.Foreign.{starts}
 use Rattle.foreign.specs.Table.{cells_of, cell_at, driven}
-use Rattle.foreign.specs.declared.take.Taken.{Taken}
-use Rattle.foreign.specs.declared.take.Taken.TheVariants as taken
+use Rattle.foreign.specs.declared.take.Stage.{Stage}
+use Rattle.foreign.specs.declared.take.Stage.TheVariants as stage
+use Rattle.foreign.specs.declared.take.State.{State}
+
+abbrev pub stage_of : Stage → ℕ
+stage_of stage.Elements = 0
+stage_of stage.Wires = 1
+stage_of stage.Pins = 2
 
 -- how far the records came, the first terminal above those taken, and the table; or a refusal's number
 pub data Took : Type 0 where
   next : ℕ → ℕ → List ℕ → Took
   wrong : ℕ → List ℕ → Took
 
-abbrev pub said_taken : Taken → List ℕ → Took
-said_taken (taken.Next t) w = next t.stage t.next w
-said_taken (taken.Refused n) w = wrong n w
+abbrev pub said_taken : Result State Reason → List ℕ → Took
+said_taken (Ok t) w = next (stage_of t.stage) t.next w
+said_taken (Err reason) w = wrong (reason_number reason) w
 
 -- an element of k inputs from i on
 abbrev pub took_element : Bool → ℕ → ℕ → ℕ → ℕ → List ℕ → Took
@@ -32,10 +39,8 @@ took_wire stage n from to w =
 abbrev pub took_pin : ℕ → ℕ → List ℕ → Took
 took_pin n t w = cond (eqb (cell_at w t) 0) (wrong 22 w) (next 2 n (cond (eqb (cell_at w t) 4) w (driven w t)))
 
-abbrev pub took : Bool → ℕ → ℕ → Front → List ℕ → Took
-took lean stage n (item (element (point i))) w = took_element lean stage n i 1 w
-took lean stage n (item (element (part p i))) w = took_element lean stage n i (part_at p).inputs w
-took lean stage n (item (wire x)) w = took_wire stage n x.from x.to w
-took lean stage n (item (pin t)) w = took_pin n t w
-took lean stage n ended w = next stage n w
-took lean stage n broken w = wrong 21 w
+abbrev pub took : Bool → ℕ → ℕ → Item → List ℕ → Took
+took lean stage n (element (point i)) w = took_element lean stage n i 1 w
+took lean stage n (element (part p i)) w = took_element lean stage n i (part_at p).inputs w
+took lean stage n (wire x) w = took_wire stage n x.from x.to w
+took lean stage n (pin t) w = took_pin n t w

@@ -3,22 +3,25 @@ ghost use Rattle.std.specs.Prelude.{◌≡◌, ◌+◌, ◌≤◌, ◌<◌, leng
 ghost use Rattle.net_reader.specs.Said.{said_record};
 ghost use Rattle.calculus.specs.Terms.{part_at};
 ghost use Rattle.foreign_calculus.specs.Foreign.{starts};
-ghost use Rattle.foreign.specs.Take.{said_taken, took_element, took_wire, took_pin, took};
+ghost use Rattle.foreign.specs.Take.{stage_of, said_taken, took_element, took_wire, took_pin, took};
 
 use crate::table;
+use answers::Reason;
 use net_reader::Record;
 
-// How far the records came (0 elements, 1 wires, 2 pins), and the first terminal above those taken.
-#[derive(Clone, Copy)]
-pub struct State {
-    pub stage: u8,
-    pub next: usize,
+// How far the records came.
+#[derive(Clone, Copy, Debug, PartialEq, Eq)]
+pub enum Stage {
+    Elements,
+    Wires,
+    Pins,
 }
 
-#[derive(Clone, Copy)]
-pub enum Taken {
-    Next(State),
-    Refused(u8),
+// How far the records came, and the first terminal above those taken.
+#[derive(Clone, Copy, Debug, PartialEq, Eq)]
+pub struct State {
+    pub stage: Stage,
+    pub next: usize,
 }
 
 // An element may start here: at the next terminal, or in a lean netlist there or above.
@@ -36,31 +39,31 @@ fn element(
     first: usize,
     inputs: usize,
     outputs: usize,
-) -> Taken
+) -> Result<State, Reason>
     requires { (8192 ≤ length work.old) × (inputs ≤ 2) × (first < 65536) × (outputs ≡ 1) }
-    ensures { said_taken result work.new ≡ took_element lean st.stage st.next first inputs work.old }
+    ensures { said_taken result work.new ≡ took_element lean (stage_of st.stage) st.next first inputs work.old }
 {
-    if st.stage != 0 {
-        return Taken::Refused(21);
+    if st.stage != Stage::Elements {
+        return Err(Reason::BrokenRecord);
     }
     let past = first + inputs + outputs;
     if !starts_at(lean, first, st.next) {
-        return Taken::Refused(22);
+        return Err(Reason::WrongTerminal);
     }
     if memory::TERMINALS < past {
-        return Taken::Refused(22);
+        return Err(Reason::WrongTerminal);
     }
     table::place(work, first, inputs);
-    Taken::Next(State {
-        stage: 0,
+    Ok(State {
+        stage: Stage::Elements,
         next: past,
     })
 }
 
 // A part, with the inputs and outputs that the table gives it.
-fn part(work: &mut [u16], lean: bool, st: State, first: usize, p: u8) -> Taken
+fn part(work: &mut [u16], lean: bool, st: State, first: usize, p: u8) -> Result<State, Reason>
     requires { (8192 ≤ length work.old) × (first < 65536) }
-    ensures { said_taken result work.new ≡ took_element lean st.stage st.next first (part_at p).inputs work.old }
+    ensures { said_taken result work.new ≡ took_element lean (stage_of st.stage) st.next first (part_at p).inputs work.old }
 {
     let entry = parts::part_of(p as u16);
     element(
@@ -73,58 +76,56 @@ fn part(work: &mut [u16], lean: bool, st: State, first: usize, p: u8) -> Taken
     )
 }
 
-fn wire(work: &mut [u16], st: State, from: usize, to: usize) -> Taken
+fn wire(work: &mut [u16], st: State, from: usize, to: usize) -> Result<State, Reason>
     requires { 8192 ≤ length work.old }
-    ensures { said_taken result work.new ≡ took_wire st.stage st.next from to work.old }
+    ensures { said_taken result work.new ≡ took_wire (stage_of st.stage) st.next from to work.old }
 {
-    if 1 < st.stage {
-        return Taken::Refused(21);
+    if st.stage == Stage::Pins {
+        return Err(Reason::BrokenRecord);
     }
-    if table::cell(work, from) != 4 {
-        return Taken::Refused(22);
+    if table::cell(work, from) != table::OUTPUT {
+        return Err(Reason::WrongTerminal);
     }
     let c = table::cell(work, to);
-    if c == 0 {
-        return Taken::Refused(22);
+    if c == table::NOTHING {
+        return Err(Reason::WrongTerminal);
     }
-    if c == 4 {
-        return Taken::Refused(22);
+    if c == table::OUTPUT {
+        return Err(Reason::WrongTerminal);
     }
     table::drive(work, to);
-    Taken::Next(State {
-        stage: 1,
+    Ok(State {
+        stage: Stage::Wires,
         next: st.next,
     })
 }
 
-fn pin(work: &mut [u16], st: State, t: usize) -> Taken
+fn pin(work: &mut [u16], st: State, t: usize) -> Result<State, Reason>
     requires { 8192 ≤ length work.old }
     ensures { said_taken result work.new ≡ took_pin st.next t work.old }
 {
     let c = table::cell(work, t);
-    if c == 0 {
-        return Taken::Refused(22);
+    if c == table::NOTHING {
+        return Err(Reason::WrongTerminal);
     }
-    if c != 4 {
+    if c != table::OUTPUT {
         table::drive(work, t);
     }
-    Taken::Next(State {
-        stage: 2,
+    Ok(State {
+        stage: Stage::Pins,
         next: st.next,
     })
 }
 
-// A record of any kind; nothing is taken at the end.
-pub fn take(work: &mut [u16], lean: bool, st: State, r: Record) -> Taken
+// A record of any kind.
+pub fn take(work: &mut [u16], lean: bool, st: State, r: Record) -> Result<State, Reason>
     requires { 8192 ≤ length work.old }
-    ensures { said_taken result work.new ≡ took lean st.stage st.next (said_record r) work.old }
+    ensures { said_taken result work.new ≡ took lean (stage_of st.stage) st.next (said_record r) work.old }
 {
     match r {
         Record::Point(i) => element(work, lean, st, i as usize, 1, 1),
         Record::Part(p, first) => part(work, lean, st, first as usize, p),
         Record::Wire(from, to) => wire(work, st, from as usize, to as usize),
         Record::Pin(t) => pin(work, st, t as usize),
-        Record::End => Taken::Next(st),
-        Record::Broken => Taken::Refused(21),
     }
 }

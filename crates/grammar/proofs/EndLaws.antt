@@ -7,15 +7,19 @@ use native.Mathlib.Omega.{arith}
 use lib.Dec.{T, eqb}
 use lib.ListN.{length}
 use borrow.Author.Tests.{eq-eqb, ne_eqb}
-use Rattle.calculus.specs.Answer.{Answer, good, ◌>>=◌, refuse, need}
+use Rattle.calculus.specs.Answer.{Answer, good, refused, ◌>>=◌, refuse, need}
+use Rattle.answers.specs.declared.Reason.{Reason}
+use Rattle.answers.specs.declared.Reason.TheVariants.{OtherWordDue}
+use Rattle.answers.specs.Refusals.{reason_number, refusal_at, said_why}
 use Rattle.notation_calculus.specs.Words.{Sign, sign_code, ends, fun, fix, lets, within, type, edition, table, arrow, linear, times, round, endRound, equals, comma, colon, dot, square, endSquare, curly, endCurly, plus, power, Token, sign, part, number, name, Word, between}
 use Rattle.notation_calculus.specs.Grammar.{peek, behind, place, is_token, is, expect, is_name, is_part}
 use Rattle.words.specs.Tables.{token_code}
 use Rattle.words.specs.Next.{Said}
 use Rattle.words.specs.Lexed.{from, Lexed, Stands}
 use Rattle.words.specs.Marks.{Untold, Marks}
-use Rattle.grammar.specs.declared.steps.End.{End}
-use Rattle.grammar.specs.Ends.{Ends}
+use Rattle.std.proofs.Common.{Ok, Err, IsErrAnd}
+use Rattle.answers.specs.declared.Refusal.{Refusal as Why}
+use Rattle.grammar.specs.Ends.{End, Ends}
 use Rattle.grammar.specs.Skips.{Step, expect_code, is_number}
 
 -- ---- tokens by their codes
@@ -129,36 +133,43 @@ word-marks text at w s = record { stands = λ _. s; arrow = untold 8; linear = u
 -- ---- ends
 
 module _ (text : List ℕ) where
-  pub ends-here : (at : ℕ) → Lexed text at → Ends text (length (from text at) + 1) (good (from text at)) (record { number = 0; at = at })
-  ends-here at l = record { reaches = λ z. record { is = refl; fewer = omega arith; lexed = l }; refuses = λ z. absurd (z refl) }
+  pub ends-here : (at : ℕ) → Lexed text at → Ends text (length (from text at) + 1) (good (from text at)) (Ok at)
+  ends-here at l = record { is = refl; fewer = omega arith; lexed = l }
 
   -- a word is read
-  pub ends-word : (at b : ℕ) (w : Said) (m : Answer (List Word)) → Stands text at w → ¬ (w.code ≡ 0) → length (from text at) ≤ b → m ≡ good (behind (from text at)) → Ends text b m (record { number = 0; at = w.end })
+  pub ends-word : (at b : ℕ) (w : Said) (m : Answer (List Word)) → Stands text at w → ¬ (w.code ≡ 0) → length (from text at) ≤ b → m ≡ good (behind (from text at)) → Ends text b m (Ok w.end)
   ends-word at b w m s z h e =
       let o = s.onward z in
-      record { reaches = λ q. record { is = e ∙ ap good o.rest; fewer = omega (arith, o.fewer); lexed = o.lexed }; refuses = λ q. absurd (q refl) }
+      record { is = e ∙ ap good o.rest; fewer = omega (arith, o.fewer); lexed = o.lexed }
 
-  pub ends_bad : (b : ℕ) (m : Answer (List Word)) (r : End) (n p : ℕ) → ¬ (n ≡ 0) → r.number ≡ n → r.at ≡ p → m ≡ refuse n p → Ends text b m r
-  ends_bad b m r n p z e f g = record { reaches = λ q. absurd (z (sym e ∙ q)); refuses = λ q. g ∙ ap (λ (k : ℕ). refuse k p) (sym e) ∙ ap (λ (k : ℕ). refuse r.number k) (sym f) }
+  -- a refusal at the first word
+  pub ends_bad : (at : ℕ) (w : Said) (m : Answer (List Word)) (why : Reason) (e : Why) → Stands text at w → e ≡ refusal_at why w.place → m ≡ refuse (reason_number why) (place (from text at)) → m ≡ refused (said_why e)
+  ends_bad at w m why e s is g = g ∙ ap (λ (p : ℕ). refuse (reason_number why) p) (sym s.place) ∙ ap (λ (x : Why). refused (said_why x)) (sym is)
 
-  -- 32 at the first word
-  pub ends-due : (at b : ℕ) (w : Said) (m : Answer (List Word)) (r : End) → Stands text at w → (r.number ≡ 32) × (r.at ≡ w.place) → m ≡ refuse 32 (place (from text at)) → Ends text b m r
-  ends-due at b w m r s e g = ends_bad b m r 32 (place (from text at)) (λ z. absurd (omega arith)) e.0 (e.1 ∙ s.place) g
+  -- .. which is 32
+  pub ends-due : (at b : ℕ) (w : Said) (m : Answer (List Word)) (e : Why) → Stands text at w → e ≡ refusal_at OtherWordDue w.place → m ≡ refuse 32 (place (from text at)) → Ends text b m (Err e)
+  ends-due at b w m e s is g = ends_bad at w m OtherWordDue e s is g
 
   pub ends_as : (b b' : ℕ) (m m' : Answer (List Word)) (r : End) → b ≤ b' → m' ≡ m → Ends text b m r → Ends text b' m' r
-  ends_as b b' m m' r h e t = record { reaches = λ z. let o = t.reaches z in record { is = e ∙ o.is; fewer = omega (arith, o.fewer); lexed = o.lexed }; refuses = λ z. e ∙ t.refuses z }
+  ends_as b b' m m' (Ok p) h e t = record { is = e ∙ t.is; fewer = omega (arith, t.fewer); lexed = t.lexed }
+  ends_as b b' m m' (Err why) h e t = e ∙ t
+
+  -- a refusal passed on
+  pub ends_passed : (b : ℕ) (m : Answer (List Word)) (r : End) (e : Why) → IsErrAnd r (λ (x : Why). x ≡ e) → Ends text b m (Err e) → Ends text b m r
+  ends_passed b m (Ok p) e h t = absurd h
+  ends_passed b m (Err x) e h t = t ∙ ap (λ (y : Why). refused (said_why y)) (sym h)
 
   -- a step is refused, and so is what goes on with it
-  pub ends-stop : (b b' : ℕ) (m m' : Answer (List Word)) (go : Step) (r : End) → m' ≡ (m >>= go) → Ends text b m r → ¬ (r.number ≡ 0) → Ends text b' m' r
-  ends-stop b b' m m' go r e t z = record { reaches = λ q. absurd (z q); refuses = λ q. e ∙ ap (λ (k : Answer (List Word)). k >>= go) (t.refuses z) }
+  pub ends-stop : (m m' : Answer (List Word)) (go : Step) (e : Why) → m' ≡ (m >>= go) → m ≡ refused (said_why e) → m' ≡ refused (said_why e)
+  ends-stop m m' go e is t = is ∙ ap (λ (k : Answer (List Word)). k >>= go) t
 
   -- a step behind a step
-  pub step_is : (b : ℕ) (m m' : Answer (List Word)) (go : Step) (r : End) → m' ≡ (m >>= go) → Ends text b m r → r.number ≡ 0 → m' ≡ go (from text r.at)
-  step_is b m m' go r e t z = e ∙ ap (λ (k : Answer (List Word)). k >>= go) (t.reaches z).is
+  pub step_is : (b : ℕ) (m m' : Answer (List Word)) (go : Step) (p : ℕ) → m' ≡ (m >>= go) → Ends text b m (Ok p) → m' ≡ go (from text p)
+  step_is b m m' go p e t = e ∙ ap (λ (k : Answer (List Word)). k >>= go) t.is
 
-  pub ends_then : (b b₁ b₂ : ℕ) (m m' : Answer (List Word)) (go : Step) (a r : End) → m' ≡ (m >>= go) → Ends text b m a → a.number ≡ 0 → b₁ ≤ b₂ → Ends text b₁ (go (from text a.at)) r → Ends text b₂ m' r
-  ends_then b b₁ b₂ m m' go a r e t z h u = ends_as b₁ b₂ _ m' r h (step_is b m m' go a e t z) u
+  pub ends_then : (b b₁ b₂ : ℕ) (m m' : Answer (List Word)) (go : Step) (p : ℕ) (r : End) → m' ≡ (m >>= go) → Ends text b m (Ok p) → b₁ ≤ b₂ → Ends text b₁ (go (from text p)) r → Ends text b₂ m' r
+  ends_then b b₁ b₂ m m' go p r e t h u = ends_as b₁ b₂ _ m' r h (step_is b m m' go p e t) u
 
   -- a sign behind a step
-  pub ends-expect : (s : Sign) (b b₂ : ℕ) (m m' : Answer (List Word)) (a r : End) → m' ≡ (m >>= λ us. expect s us) → Ends text b m a → a.number ≡ 0 → b ≤ b₂ → Ends text (length (from text a.at)) (expect_code (sign_code s) (from text a.at)) r → Ends text b₂ m' r
-  ends-expect s b b₂ m m' a r e t z h u = ends_then b (length (from text a.at)) b₂ m m' (λ us. expect s us) a r e t z (omega (arith, (t.reaches z).fewer)) (ends_as _ _ _ _ r (omega arith) (expect-code s (from text a.at)) u)
+  pub ends-expect : (s : Sign) (b b₂ : ℕ) (m m' : Answer (List Word)) (p : ℕ) (r : End) → m' ≡ (m >>= λ us. expect s us) → Ends text b m (Ok p) → b ≤ b₂ → Ends text (length (from text p)) (expect_code (sign_code s) (from text p)) r → Ends text b₂ m' r
+  ends-expect s b b₂ m m' p r e t h u = ends_then b (length (from text p)) b₂ m m' (λ us. expect s us) p r e t (omega (arith, t.fewer)) (ends_as _ _ _ _ r (omega arith) (expect-code s (from text p)) u)

@@ -15,8 +15,9 @@ use Rattle.notation_calculus.specs.Grammar.{Got, got, peek, behind, place, is, e
 use Rattle.words.specs.Tables.{token_code, token_value}
 use Rattle.words.specs.Next.{Said}
 use Rattle.words.specs.Lexed.{from, Onward, Stands}
-use Rattle.grammar.specs.declared.steps.End.{End}
-use Rattle.grammar.specs.Ends.{Ends, EndsIn, rest_of, type_step, term_step}
+use Rattle.std.proofs.Common.{Ok, Err}
+use Rattle.answers.specs.declared.Refusal.{Refusal as Why}
+use Rattle.grammar.specs.Ends.{End, Ends, EndsIn, rest_of, type_step, term_step}
 use Rattle.grammar.specs.Skips.{Step, expect_code, name_end, list_more, list_end, group_end, numbers_end, names_list, clause_end, item_end, is_edition, edition_end}
 use Rattle.grammar.proofs.EndLaws.{sign_not, expect-code, is_yes, is_no, ends-word, ends-due, ends_as, step_is}
 use Rattle.grammar.proofs.StepLaws.{DueAt}
@@ -70,8 +71,8 @@ edition_rest ws = either (is edition ws) _ _ _ _ (edition_by_lem (peek (behind w
 
 -- ---- steps that may read nothing
 
-pub along_maybe : (text : List ℕ) (most : ℕ) (total : Answer (List Word)) (f g : Step) (t t' : End) → Along text most total (λ us. f us >>= g) t → t.number ≡ 0 → Ends text (length (from text t.at) + 1) (f (from text t.at)) t' → Along text most total g t'
-along_maybe text most total f g t t' l z d = record { step = f (from text t.at); bound = length (from text t.at) + 1; total_is = step_is text _ _ _ (λ us. f us >>= g) t l.total_is l.ends z; ends = d; within = omega (arith, (l.ends.reaches z).fewer, l.within) }
+pub along_maybe : (text : List ℕ) (most : ℕ) (total : Answer (List Word)) (f g : Step) (p : ℕ) (t' : End) → Along text most total (λ us. f us >>= g) (Ok p) → Ends text (length (from text p) + 1) (f (from text p)) t' → Along text most total g t'
+along_maybe text most total f g p t' l d = record { step = f (from text p); bound = length (from text p) + 1; total_is = step_is text _ _ _ (λ us. f us >>= g) p l.total_is l.ends; ends = d; within = omega (arith, l.ends.fewer, l.within) }
 
 -- ---- parameters, lines and items by the first word
 
@@ -129,27 +130,27 @@ module _ (text : List ℕ) (at : ℕ) (w : Said) (s : Stands text at w) where
     by_value (number n) f = refl
     by_value (name n) f = absurd (omega arith)
 
-    pub edition-other : ¬ (v.code ≡ 23) → (r : End) → DueAt r v → Ends text (length here + 1) (edition_end here) r
+    pub edition-other : ¬ (v.code ≡ 23) → (why : Why) → DueAt why v → Ends text (length here + 1) (edition_end here) (Err why)
     edition-other f r d = ends-due text w.end (length here + 1) v (edition_end here) r next d (edition-is false (by_code (peek (from text w.end)).token (λ q. f (next.code ∙ q))))
 
     module _ (f : v.code ≡ 23) where
       valued : (b : Bool) → (eqb v.value 1 || eqb v.value 2) ≡ b → is_edition (peek (from text w.end)).token ≡ b
       valued b g = by_value (peek (from text w.end)).token (sym next.code ∙ f) ∙ ap (λ (n : ℕ). eqb n 1 || eqb n 2) (sym next.value) ∙ g
 
-      good-edition : (eqb v.value 1 || eqb v.value 2) ≡ true → Ends text (length here + 1) (edition_end here) (record { number = 0; at = v.end })
+      good-edition : (eqb v.value 1 || eqb v.value 2) ≡ true → Ends text (length here + 1) (edition_end here) (Ok v.end)
       good-edition g = ends-word text w.end (length here + 1) v (edition_end here) next (λ z. omega arith) (omega (arith, (on 5 e).fewer)) (edition-is true (valued true g))
 
-      pub edition_first : v.value ≡ 1 → Ends text (length here + 1) (edition_end here) (record { number = 0; at = v.end })
+      pub edition_first : v.value ≡ 1 → Ends text (length here + 1) (edition_end here) (Ok v.end)
       edition_first g = good-edition (ap (λ (x : Bool). x || eqb v.value 2) (eq-eqb v.value 1 g))
 
       module _ (a : ¬ (v.value ≡ 1)) where
         second_by : (b : Bool) → eqb v.value 2 ≡ b → (eqb v.value 1 || eqb v.value 2) ≡ b
         second_by b g = ap (λ (x : Bool). x || eqb v.value 2) (ne_eqb v.value 1 a) ∙ g
 
-        pub edition_second : v.value ≡ 2 → Ends text (length here + 1) (edition_end here) (record { number = 0; at = v.end })
+        pub edition_second : v.value ≡ 2 → Ends text (length here + 1) (edition_end here) (Ok v.end)
         edition_second g = good-edition (second_by true (eq-eqb v.value 2 g))
 
-        pub edition-bad : ¬ (v.value ≡ 2) → (r : End) → DueAt r v → Ends text (length here + 1) (edition_end here) r
+        pub edition-bad : ¬ (v.value ≡ 2) → (why : Why) → DueAt why v → Ends text (length here + 1) (edition_end here) (Err why)
         edition-bad g r d = ends-due text w.end (length here + 1) v (edition_end here) r next d (edition-is false (valued false (second_by false (ne_eqb v.value 2 g))))
 
 -- ---- a line of types

@@ -10,8 +10,11 @@ use Rattle.notation_calculus.specs.Words.{endRound, comma, round, Word}
 use Rattle.notation_calculus.specs.Grammar.{behind, place, expect}
 use Rattle.words.specs.Next.{Said}
 use Rattle.words.specs.Lexed.{from, Stands}
-use Rattle.grammar.specs.declared.steps.End.{End}
-use Rattle.grammar.specs.Ends.{Ends, EndsIn}
+use Rattle.std.proofs.Common.{Ok, Err}
+use Rattle.answers.specs.declared.Refusal.{Refusal as Why}
+use Rattle.answers.specs.declared.Reason.TheVariants.{TextLimit}
+use Rattle.answers.specs.Refusals.{refusal_at}
+use Rattle.grammar.specs.Ends.{End, Ends, EndsIn}
 use Rattle.grammar.specs.Skips.{Step, name_end, list_more, list_end, names_end, apart_end, one_end, lists_end, binds_end}
 use Rattle.grammar.proofs.EndLaws.{is_yes, is_no, ends_bad, ends_as, step_is}
 use Rattle.grammar.proofs.StepLaws.{DueAt, name_good, name_bad}
@@ -38,15 +41,15 @@ module _ (text : List ℕ) (at more : ℕ) (w : Said) (s : Stands text at w) whe
   one-else : ¬ (w.code ≡ 11) → one_end (lists_end more) here ≡ name_end here
   one-else e = ap (λ (b : Bool). cond b (lists_end more here) (name_end here)) (is_no text at w s round e)
 
-  pub one_name : w.code ≡ 24 → Ends text (length here) (one_end (lists_end more) here) (record { number = 0; at = w.end })
-  one_name e = ends_as text _ _ _ _ _ (omega arith) (one-else (λ q. omega arith)) (name_good text at w s e)
+  pub one_name : w.code ≡ 24 → Ends text (length here) (one_end (lists_end more) here) (Ok w.end)
+  one_name e = ends_as text (length here) _ _ _ (Ok w.end) (omega arith) (one-else (λ q. omega arith)) (name_good text at w s e)
 
-  pub one_bad : ¬ (w.code ≡ 24) → ¬ (w.code ≡ 11) → (r : End) → DueAt r w → Ends text (length here) (one_end (lists_end more) here) r
-  one_bad e f r d = ends_as text _ _ _ _ r (omega arith) (one-else f) (name_bad text at w s e r d)
+  pub one_bad : ¬ (w.code ≡ 24) → ¬ (w.code ≡ 11) → (why : Why) → DueAt why w → Ends text (length here) (one_end (lists_end more) here) (Err why)
+  one_bad e f why d = one-else f ∙ name_bad text at w s e why d
 
   module _ (e : w.code ≡ 11) where
-    pub one-deep : more ≡ 0 → (r : End) → (r.number ≡ 34) × (r.at ≡ w.place) → Ends text (length here) (one_end (lists_end more) here) r
-    one-deep z r d = ends_bad text _ _ r 34 (place here) (λ q. omega arith) d.0 (d.1 ∙ s.place) (one_list e ∙ lists_none more here z)
+    pub one-deep : more ≡ 0 → (why : Why) → why ≡ refusal_at TextLimit w.place → Ends text (length here) (one_end (lists_end more) here) (Err why)
+    one-deep z why d = ends_bad text at w _ TextLimit why s d (one_list e ∙ lists_none more here z)
 
     pub one_apart : ¬ (more ≡ 0) → (r : End) → EndsIn text w.end (apart_end (one_end (lists_end (more - 1)))) r → Ends text (length here) (one_end (lists_end more) here) r
     one_apart z r u =
@@ -73,14 +76,14 @@ module _ (text : List ℕ) (at : ℕ) (read : Step) (n : ℕ) (enough : length (
   pub apart-first : (t : End) → Ends text (length (from text at)) (read (from text at)) t → Along text (length (from text at)) (apart_end read n (from text at)) (λ us. expect comma us >>= others) t
   apart-first t d = along_first text (length (from text at)) (read (from text at)) (apart_end read n (from text at)) (λ us. expect comma us >>= others) t (apart_by n (omega arith)) d
 
-  pub apart-second : (t x : End) → Along text (length (from text at)) (apart_end read n (from text at)) others t → t.number ≡ 0 → Ends text (length (from text t.at)) (read (from text t.at)) x → Loops text (list_more read) (λ us. expect endRound us) (apart_end read n (from text at)) (length (from text at)) x
-  apart-second t x l z d =
-      let fewer : length (from text t.at) < length (from text at) = omega (arith, (l.ends.reaches z).fewer, l.within) in
+  pub apart-second : (p : ℕ) (x : End) → Along text (length (from text at)) (apart_end read n (from text at)) others (Ok p) → Ends text (length (from text p)) (read (from text p)) x → Loops text (list_more read) (λ us. expect endRound us) (apart_end read n (from text at)) (length (from text at)) x
+  apart-second p x l d =
+      let fewer : length (from text p) < length (from text at) = omega (arith, l.ends.fewer, l.within) in
       record {
-        step = read (from text t.at);
+        step = read (from text p);
         rounds = n - 1 - 1;
-        bound = length (from text t.at);
-        total_is = step_is text _ _ _ others t l.total_is l.ends z ∙ ap (λ (m : Answer (List Word)). m >>= λ us. expect endRound us) (list_by read (n - 1) (from text t.at) (omega arith)) ∙ both_steps (read (from text t.at)) (λ vs. list_more read (n - 1 - 1) vs) (λ us. expect endRound us);
+        bound = length (from text p);
+        total_is = step_is text _ _ _ others p l.total_is l.ends ∙ ap (λ (m : Answer (List Word)). m >>= λ us. expect endRound us) (list_by read (n - 1) (from text p) (omega arith)) ∙ both_steps (read (from text p)) (λ vs. list_more read (n - 1 - 1) vs) (λ us. expect endRound us);
         ends = d;
         enough = omega arith;
         within = omega arith;

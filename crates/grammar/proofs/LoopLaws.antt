@@ -4,16 +4,15 @@ use mathlib.Core.Path.{◌≡◌, refl, sym, ap, ◌∙◌}
 use mathlib.Core.Bool.{Bool, true, false, cond}
 use mathlib.Core.List.{List}
 use native.Mathlib.Omega.{arith}
-use lib.Dec.{eqb}
 use lib.ListN.{length}
-use borrow.Author.Tests.{eq-eqb, eqb-true}
-use Rattle.calculus.specs.Answer.{Answer, good, refused, ◌>>=◌, refuse}
+use Rattle.calculus.specs.Answer.{Answer, good, refused, ◌>>=◌}
 use Rattle.notation_calculus.specs.Words.{Sign, sign_code, Word}
 use Rattle.notation_calculus.specs.Grammar.{behind, is, expect}
 use Rattle.words.specs.Next.{Said}
 use Rattle.words.specs.Lexed.{from, Stands}
-use Rattle.grammar.specs.declared.steps.End.{End}
-use Rattle.grammar.specs.Ends.{Ends}
+use Rattle.std.proofs.Common.{Ok, Err}
+use Rattle.answers.specs.declared.Refusal.{Refusal as Why}
+use Rattle.grammar.specs.Ends.{End, Ends}
 use Rattle.grammar.specs.Skips.{Step, list_more, list_end, group_end}
 use Rattle.grammar.proofs.EndLaws.{is_yes}
 
@@ -31,49 +30,36 @@ pub record Loops (text : List ℕ) (go : ℕ → Step) (fin : Step) (total : Ans
   pub enough : bound ≤ rounds
   pub within : bound ≤ most
 
--- the words that are left; none where the last round was refused
-abbrev pub left_words : List ℕ → End → ℕ
-left_words text t = cond (eqb t.number 0) (suc (length (from text t.at))) 0
-
-pub left_less : (text : List ℕ) (b : ℕ) (m : Answer (List Word)) (t t' : End) → t.number ≡ 0 → Ends text b m t' → b ≤ length (from text t.at) → left_words text t' < left_words text t
-left_less text b m t t' z e h = by (eqb t'.number 0) refl
-  where
-    now : left_words text t ≡ suc (length (from text t.at))
-    now = ap (λ (x : Bool). cond x (suc (length (from text t.at))) 0) (eq-eqb _ _ z)
-
-    by : (x : Bool) → eqb t'.number 0 ≡ x → cond x (suc (length (from text t'.at))) 0 < left_words text t
-    by true q = omega (arith, now, (e.reaches (eqb-true t'.number 0 q)).fewer)
-    by false q = omega (arith, now)
-
 module _ (text : List ℕ) (go : ℕ → Step) (test : List Word → Bool) (turn : Step) (turns : (r : ℕ) (us : List Word) → go (suc r) us ≡ cond (test us) (turn us >>= go r) (good us))
-    (fin : Step) (total : Answer (List Word)) (most : ℕ) (t : End) (l : Loops text go fin total most t) where
-  pub loop_bad : ¬ (t.number ≡ 0) → total ≡ refuse t.number t.at
-  loop_bad z = l.total_is ∙ ap (λ (m : Answer (List Word)). m >>= λ us. go l.rounds us >>= fin) (l.ends.refuses z)
+    (fin : Step) (total : Answer (List Word)) (most : ℕ) where
+  module _ (p : ℕ) (l : Loops text go fin total most (Ok p)) where
+    on-words : total ≡ (go l.rounds (from text p) >>= fin)
+    on-words = l.total_is ∙ ap (λ (m : Answer (List Word)). m >>= λ us. go l.rounds us >>= fin) l.ends.is
 
-  module _ (z : t.number ≡ 0) where
-    on-words : total ≡ (go l.rounds (from text t.at) >>= fin)
-    on-words = l.total_is ∙ ap (λ (m : Answer (List Word)). m >>= λ us. go l.rounds us >>= fin) (l.ends.reaches z).is
-
-    go-by : (n : ℕ) → length (from text t.at) < n → go n (from text t.at) ≡ cond (test (from text t.at)) (turn (from text t.at) >>= go (n - 1)) (good (from text t.at))
+    go-by : (n : ℕ) → length (from text p) < n → go n (from text p) ≡ cond (test (from text p)) (turn (from text p) >>= go (n - 1)) (good (from text p))
     go-by zero h = absurd (omega arith)
-    go-by (suc r) h = let e : suc r - 1 ≡ r = omega arith in turns r (from text t.at) ∙ ap (λ (k : ℕ). cond (test (from text t.at)) (turn (from text t.at) >>= go k) (good (from text t.at))) (sym e)
+    go-by (suc r) h = let e : suc r - 1 ≡ r = omega arith in turns r (from text p) ∙ ap (λ (k : ℕ). cond (test (from text p)) (turn (from text p) >>= go k) (good (from text p))) (sym e)
 
-    enough-now : length (from text t.at) < l.rounds
-    enough-now = omega (arith, (l.ends.reaches z).fewer, l.enough)
+    enough-now : length (from text p) < l.rounds
+    enough-now = omega (arith, l.ends.fewer, l.enough)
 
-    pub loop-stop : test (from text t.at) ≡ false → total ≡ fin (from text t.at)
-    loop-stop e = on-words ∙ ap (λ (m : Answer (List Word)). m >>= fin) (go-by l.rounds enough-now ∙ ap (λ (b : Bool). cond b (turn (from text t.at) >>= go (l.rounds - 1)) (good (from text t.at))) e)
+    pub loop-stop : test (from text p) ≡ false → total ≡ fin (from text p)
+    loop-stop e = on-words ∙ ap (λ (m : Answer (List Word)). m >>= fin) (go-by l.rounds enough-now ∙ ap (λ (b : Bool). cond b (turn (from text p) >>= go (l.rounds - 1)) (good (from text p))) e)
 
-    pub loop-turn : test (from text t.at) ≡ true → (b' : ℕ) (t' : End) → Ends text b' (turn (from text t.at)) t' → b' ≤ length (from text t.at) → Loops text go fin total most t'
+    pub loop-turn : test (from text p) ≡ true → (b' : ℕ) (t' : End) → Ends text b' (turn (from text p)) t' → b' ≤ length (from text p) → Loops text go fin total most t'
     loop-turn e b' t' n h = record {
-      step = turn (from text t.at);
+      step = turn (from text p);
       rounds = l.rounds - 1;
       bound = b';
-      total_is = on-words ∙ ap (λ (m : Answer (List Word)). m >>= fin) (go-by l.rounds enough-now ∙ ap (λ (b : Bool). cond b (turn (from text t.at) >>= go (l.rounds - 1)) (good (from text t.at))) e) ∙ both_steps (turn (from text t.at)) (go (l.rounds - 1)) fin;
+      total_is = on-words ∙ ap (λ (m : Answer (List Word)). m >>= fin) (go-by l.rounds enough-now ∙ ap (λ (b : Bool). cond b (turn (from text p) >>= go (l.rounds - 1)) (good (from text p))) e) ∙ both_steps (turn (from text p)) (go (l.rounds - 1)) fin;
       ends = n;
       enough = omega (arith, enough-now);
-      within = omega (arith, (l.ends.reaches z).fewer, l.within);
+      within = omega (arith, l.ends.fewer, l.within);
     }
+
+-- a round is refused, and so is the loop
+pub loop_bad : (text : List ℕ) (go : ℕ → Step) (fin : Step) (total : Answer (List Word)) (most : ℕ) (why : Why) → Loops text go fin total most (Err why) → Ends text most total (Err why)
+loop_bad text go fin total most why l = l.total_is ∙ ap (λ (m : Answer (List Word)). m >>= λ us. go l.rounds us >>= fin) l.ends
 
 -- ---- a list between two signs
 

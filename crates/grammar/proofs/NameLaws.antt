@@ -7,8 +7,8 @@ use lib.ListN.{length}
 use Rattle.calculus.specs.Answer.{Answer, good, refused, ◌>>=◌}
 use Rattle.notation_calculus.specs.Words.{Word}
 use Rattle.words.specs.Lexed.{from}
-use Rattle.grammar.specs.declared.steps.End.{End}
-use Rattle.grammar.specs.Ends.{Ends}
+use Rattle.std.proofs.Common.{Ok}
+use Rattle.grammar.specs.Ends.{End, Ends}
 use Rattle.grammar.specs.Skips.{Step, expect_code, name_end, list_more, names_more_lem, names_end, names_list}
 use Rattle.grammar.proofs.LoopLaws.{both_steps, Loops, list_by}
 
@@ -21,8 +21,8 @@ plain_on (good ws) go = sym (plain (go ws))
 plain_on (refused why) go = refl
 
 -- a loop that ends where it stands
-pub loop_done : (text : List ℕ) (go : ℕ → Step) (fin : Step) (total : Answer (List Word)) (most : ℕ) (t : End) → Loops text go fin total most t → t.number ≡ 0 → total ≡ good (from text t.at) → Ends text most total t
-loop_done text go fin total most t l z e = record { reaches = λ q. let o = l.ends.reaches z in record { is = e; fewer = omega (arith, o.fewer, l.within); lexed = o.lexed }; refuses = λ q. absurd (q z) }
+pub loop_done : (text : List ℕ) (go : ℕ → Step) (fin : Step) (total : Answer (List Word)) (most p : ℕ) → Loops text go fin total most (Ok p) → total ≡ good (from text p) → Ends text most total (Ok p)
+loop_done text go fin total most p l e = record { is = e; fewer = omega (arith, l.ends.fewer, l.within); lexed = l.ends.lexed }
 
 -- a loop of plain steps that begins with a step
 pub loop_from : (text : List ℕ) (at n b : ℕ) (go : ℕ → Step) (m total : Answer (List Word)) (t : End) → total ≡ (m >>= λ us. go n us) → Ends text b m t → b ≤ n → Loops text go (λ us. good us) total b t

@@ -12,14 +12,17 @@ use Rattle.notation_calculus.specs.Grammar.{peek, behind, place, is}
 use Rattle.words.specs.Tables.{token_code}
 use Rattle.words.specs.Next.{Said}
 use Rattle.words.specs.Lexed.{from, Onward, Stands}
-use Rattle.grammar.specs.declared.steps.End.{End}
-use Rattle.grammar.specs.Ends.{Ends}
+use Rattle.std.proofs.Common.{Ok, Err}
+use Rattle.answers.specs.declared.Refusal.{Refusal as Why}
+use Rattle.answers.specs.declared.Reason.TheVariants.{OtherWordDue}
+use Rattle.answers.specs.Refusals.{refusal_at}
+use Rattle.grammar.specs.Ends.{End, Ends}
 use Rattle.grammar.specs.Skips.{expect_code, name_end, is_number, plus_end, number_by_lem, number_end, ones_end}
 use Rattle.grammar.proofs.EndLaws.{sign_not, name_yes, name_no, number_yes, number_no, is_yes, ends-word, ends-due, ends_as}
 
--- what `refused(32, w.start)` gives
-abbrev pub DueAt : End → Said → Type 0
-DueAt r w = (r.number ≡ 32) × (r.at ≡ w.place)
+-- 32 at a word
+abbrev pub DueAt : Why → Said → Type 0
+DueAt e w = e ≡ refusal_at OtherWordDue w.place
 
 number_by_number : (t : Token) (ws : List Word) → token_code t ≡ 23 → number_by_lem t ws ≡ good (behind ws)
 number_by_number (sign t) ws e = absurd (sign_not t 23 tt e)
@@ -61,16 +64,16 @@ module _ (text : List ℕ) (at : ℕ) (w : Said) (s : Stands text at w) where
   not_end : (n : ℕ) → w.code ≡ suc n → ¬ (w.code ≡ 0)
   not_end n e z = omega arith
 
-  pub expect_good : (c : ℕ) → w.code ≡ c → 0 < c → Ends text (length here) (expect_code c here) (record { number = 0; at = w.end })
+  pub expect_good : (c : ℕ) → w.code ≡ c → 0 < c → Ends text (length here) (expect_code c here) (Ok w.end)
   expect_good c e z = ends-word text at (length here) w (expect_code c here) s (λ q. omega arith) (omega arith) (ap due (eq-eqb c _ (sym e ∙ s.code)))
 
-  pub expect_bad : (c : ℕ) → ¬ (w.code ≡ c) → (r : End) → DueAt r w → Ends text (length here) (expect_code c here) r
+  pub expect_bad : (c : ℕ) → ¬ (w.code ≡ c) → (why : Why) → DueAt why w → Ends text (length here) (expect_code c here) (Err why)
   expect_bad c e r d = ends-due text at (length here) w (expect_code c here) r s d (ap due (ne_eqb c _ (λ q. e (s.code ∙ sym q))))
 
-  pub name_good : w.code ≡ 24 → Ends text (length here) (name_end here) (record { number = 0; at = w.end })
+  pub name_good : w.code ≡ 24 → Ends text (length here) (name_end here) (Ok w.end)
   name_good e = ends-word text at (length here) w (name_end here) s (not_end 23 e) (omega arith) (ap due (name_yes (peek here).token (code_is 24 e)))
 
-  pub name_bad : ¬ (w.code ≡ 24) → (r : End) → DueAt r w → Ends text (length here) (name_end here) r
+  pub name_bad : ¬ (w.code ≡ 24) → (why : Why) → DueAt why w → Ends text (length here) (name_end here) (Err why)
   name_bad e r d = ends-due text at (length here) w (name_end here) r s d (ap due (name_no (peek here).token (code_not 24 e)))
 
   -- ---- n + k
@@ -85,15 +88,15 @@ module _ (text : List ℕ) (at : ℕ) (w : Said) (s : Stands text at w) where
     plus-is : (b : Bool) → is_number (peek (from text w.end)).token ≡ b → plus_end here ≡ (need b 32 (place (from text w.end)) >>= λ _. good (behind (from text w.end)))
     plus-is b f = ap (λ (x : Bool). plus_by x (behind here)) (is_yes text at w s plus e) ∙ ap (plus_by true) (plus_on e).rest ∙ ap (λ (x : Bool). need x 32 (place (from text w.end)) >>= λ _. good (behind (from text w.end))) f
 
-    pub plus-good : v.code ≡ 23 → Ends text (length here + 1) (plus_end here) (record { number = 0; at = v.end })
+    pub plus-good : v.code ≡ 23 → Ends text (length here + 1) (plus_end here) (Ok v.end)
     plus-good f = ends-word text w.end (length here + 1) v (plus_end here) next (λ z. omega arith) (omega (arith, (plus_on e).fewer)) (plus-is true (number_yes (peek (from text w.end)).token (sym next.code ∙ f)))
 
-    pub plus-bad : ¬ (v.code ≡ 23) → (r : End) → DueAt r v → Ends text (length here + 1) (plus_end here) r
+    pub plus-bad : ¬ (v.code ≡ 23) → (why : Why) → DueAt why v → Ends text (length here + 1) (plus_end here) (Err why)
     plus-bad f r d = ends-due text w.end (length here + 1) v (plus_end here) r next d (plus-is false (number_no (peek (from text w.end)).token (λ q. f (next.code ∙ q))))
 
   -- ---- k, n or n + k
 
-  pub number_good : w.code ≡ 23 → Ends text (length here) (number_end here) (record { number = 0; at = w.end })
+  pub number_good : w.code ≡ 23 → Ends text (length here) (number_end here) (Ok w.end)
   number_good e = ends-word text at (length here) w (number_end here) s (not_end 22 e) (omega arith) (number_by_number (peek here).token here (code_is 23 e))
 
   pub name_on : w.code ≡ 24 → Onward text at w.end
@@ -102,7 +105,7 @@ module _ (text : List ℕ) (at : ℕ) (w : Said) (s : Stands text at w) where
   pub number-name : (e : w.code ≡ 24) (r : End) → Ends text (length (from text w.end) + 1) (plus_end (from text w.end)) r → Ends text (length here) (number_end here) r
   number-name e r t = ends_as text _ (length here) _ (number_end here) r (omega (arith, (name_on e).fewer)) (number_by_name (peek here).token here (code_is 24 e) ∙ ap plus_end (name_on e).rest) t
 
-  pub number_bad : ¬ (w.code ≡ 23) → ¬ (w.code ≡ 24) → (r : End) → DueAt r w → Ends text (length here) (number_end here) r
+  pub number_bad : ¬ (w.code ≡ 23) → ¬ (w.code ≡ 24) → (why : Why) → DueAt why w → Ends text (length here) (number_end here) (Err why)
   number_bad e f r d = ends-due text at (length here) w (number_end here) r s d (number_by_none (peek here).token here (code_not 23 e) (code_not 24 f))
 
   -- ---- behind a 1

@@ -12,8 +12,11 @@ use Rattle.notation_calculus.specs.Grammar.{peek, behind, place, is, expect}
 use Rattle.words.specs.Tables.{token_code}
 use Rattle.words.specs.Next.{Said}
 use Rattle.words.specs.Lexed.{from, Lexed, Onward, Stands}
-use Rattle.grammar.specs.declared.steps.End.{End}
-use Rattle.grammar.specs.Ends.{Ends, EndsIn, type_step, term_step}
+use Rattle.std.proofs.Common.{Ok, Err}
+use Rattle.answers.specs.declared.Refusal.{Refusal as Why}
+use Rattle.answers.specs.declared.Reason.TheVariants.{TextLimit}
+use Rattle.answers.specs.Refusals.{refusal_at}
+use Rattle.grammar.specs.Ends.{End, Ends, EndsIn, type_step, term_step}
 use Rattle.grammar.specs.Skips.{Step, expect_code, name_end, use_end, trees_end, tuple_end, atom_by, atom_end, atoms_end, spine_end, one_end, lists_end, binds_end, bound_end, let_body_end}
 use Rattle.grammar.proofs.EndLaws.{sign_not, expect-code, is_yes, is_no, ends-word, ends_bad, ends-due, ends_as, ends-stop, step_is}
 use Rattle.grammar.proofs.StepLaws.{DueAt, code_is, code_not}
@@ -39,20 +42,20 @@ pub along_sign : (text : List ℕ) (at : ℕ) (s : Sign) (total : Answer (List W
 along_sign text at s total go t e d = along_first text (length (from text at)) (expect s (from text at)) total go t e (ends_as text _ _ _ _ t (omega arith) (expect-code s (from text at)) d)
 
 module _ (text : List ℕ) (most : ℕ) (total : Answer (List Word)) where
-  pub along_stop : (go : Step) (t : End) → Along text most total go t → ¬ (t.number ≡ 0) → Ends text most total t
-  along_stop go t l z = ends-stop text _ _ _ _ go t l.total_is l.ends z
+  pub along_stop : (go : Step) (why : Why) → Along text most total go (Err why) → Ends text most total (Err why)
+  along_stop go why l = ends-stop text _ _ go why l.total_is l.ends
 
-  pub along_next : (f g : Step) (t t' : End) → Along text most total (λ us. f us >>= g) t → t.number ≡ 0 → Ends text (length (from text t.at)) (f (from text t.at)) t' → Along text most total g t'
-  along_next f g t t' l z d = record { step = f (from text t.at); bound = length (from text t.at); total_is = step_is text _ _ _ (λ us. f us >>= g) t l.total_is l.ends z; ends = d; within = omega (arith, (l.ends.reaches z).fewer, l.within) }
+  pub along_next : (f g : Step) (p : ℕ) (t' : End) → Along text most total (λ us. f us >>= g) (Ok p) → Ends text (length (from text p)) (f (from text p)) t' → Along text most total g t'
+  along_next f g p t' l d = record { step = f (from text p); bound = length (from text p); total_is = step_is text _ _ _ (λ us. f us >>= g) p l.total_is l.ends; ends = d; within = omega (arith, l.ends.fewer, l.within) }
 
-  pub along_expect : (s : Sign) (g : Step) (t t' : End) → Along text most total (λ us. expect s us >>= g) t → t.number ≡ 0 → Ends text (length (from text t.at)) (expect_code (sign_code s) (from text t.at)) t' → Along text most total g t'
-  along_expect s g t t' l z d = along_next (λ us. expect s us) g t t' l z (ends_as text _ _ _ _ t' (omega arith) (expect-code s (from text t.at)) d)
+  pub along_expect : (s : Sign) (g : Step) (p : ℕ) (t' : End) → Along text most total (λ us. expect s us >>= g) (Ok p) → Ends text (length (from text p)) (expect_code (sign_code s) (from text p)) t' → Along text most total g t'
+  along_expect s g p t' l d = along_next (λ us. expect s us) g p t' l (ends_as text _ _ _ _ t' (omega arith) (expect-code s (from text p)) d)
 
-  pub along_last : (f : Step) (t r : End) → Along text most total f t → t.number ≡ 0 → Ends text (length (from text t.at)) (f (from text t.at)) r → Ends text most total r
-  along_last f t r l z d = ends_as text _ _ _ _ r (omega (arith, (l.ends.reaches z).fewer, l.within)) (step_is text _ _ _ f t l.total_is l.ends z) d
+  pub along_last : (f : Step) (p : ℕ) (r : End) → Along text most total f (Ok p) → Ends text (length (from text p)) (f (from text p)) r → Ends text most total r
+  along_last f p r l d = ends_as text _ _ _ _ r (omega (arith, l.ends.fewer, l.within)) (step_is text _ _ _ f p l.total_is l.ends) d
 
-  pub along_lexed : (go : Step) (t : End) → Along text most total go t → t.number ≡ 0 → Lexed text t.at
-  along_lexed go t l z = (l.ends.reaches z).lexed
+  pub along_lexed : (go : Step) (p : ℕ) → Along text most total go (Ok p) → Lexed text p
+  along_lexed go p l = l.ends.lexed
 
 -- ---- atoms by the token
 
@@ -94,10 +97,10 @@ module _ (text : List ℕ) (at : ℕ) (w : Said) (s : Stands text at w) (read re
   pub atom_round : w.code ≡ 11 → (r : End) → EndsIn text w.end (tuple_end read) r → Ends text (length here) (atom_end read readType here) r
   atom_round e r t = ends_as text _ (length here) _ (atom_end read readType here) r (omega (arith, (on 10 e).fewer)) (by-round read readType here (peek here).token (code_is text at w s 11 e) ∙ ap (λ (us : List Word). tuple_end read (length here) us) (on 10 e).rest) (t (length here) (on 10 e).fewer)
 
-  pub atom_part : w.code ≡ 22 → Ends text (length here) (atom_end read readType here) (record { number = 0; at = w.end })
+  pub atom_part : w.code ≡ 22 → Ends text (length here) (atom_end read readType here) (Ok w.end)
   atom_part e = ends-word text at (length here) w (atom_end read readType here) s (λ z. omega arith) (omega arith) (by_part read readType here (peek here).token (code_is text at w s 22 e))
 
-  pub atom_none : ¬ (w.code ≡ 24) → ¬ (w.code ≡ 11) → ¬ (w.code ≡ 22) → (r : End) → DueAt r w → Ends text (length here) (atom_end read readType here) r
+  pub atom_none : ¬ (w.code ≡ 24) → ¬ (w.code ≡ 11) → ¬ (w.code ≡ 22) → (why : Why) → DueAt why w → Ends text (length here) (atom_end read readType here) (Err why)
   atom_none e f g r d = ends-due text at (length here) w (atom_end read readType here) r s d (by-none read readType here (peek here).token (code_not text at w s 24 e) (code_not text at w s 11 f) (code_not text at w s 22 g))
 
 -- ---- loops
@@ -115,8 +118,8 @@ module _ (text : List ℕ) (at more : ℕ) (w : Said) (s : Stands text at w) whe
   abbrev words : List Word
   words = from text at
 
-  pub term_deep : more ≡ 0 → (r : End) → (r.number ≡ 34) × (r.at ≡ w.place) → Ends text (length words) (term_step more words) r
-  term_deep e r d = ends_bad text _ _ r 34 (place words) (λ z. omega arith) d.0 (d.1 ∙ s.place) (term_none more words e)
+  pub term_deep : more ≡ 0 → (why : Why) → why ≡ refusal_at TextLimit w.place → Ends text (length words) (term_step more words) (Err why)
+  term_deep e why d = ends_bad text at w _ TextLimit why s d (term_none more words e)
 
   module _ (some : ¬ (more ≡ 0)) where
     abbrev bound : Step

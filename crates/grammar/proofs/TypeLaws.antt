@@ -13,8 +13,11 @@ use Rattle.notation_calculus.specs.Grammar.{peek, behind, place, is, expect}
 use Rattle.words.specs.Tables.{token_code, token_value}
 use Rattle.words.specs.Next.{Said}
 use Rattle.words.specs.Lexed.{from, Onward, Stands}
-use Rattle.grammar.specs.declared.steps.End.{End}
-use Rattle.grammar.specs.Ends.{Ends, type_step}
+use Rattle.std.proofs.Common.{Ok, Err}
+use Rattle.answers.specs.declared.Refusal.{Refusal as Why}
+use Rattle.answers.specs.declared.Reason.TheVariants.{TextLimit}
+use Rattle.answers.specs.Refusals.{refusal_at}
+use Rattle.grammar.specs.Ends.{End, Ends, type_step}
 use Rattle.grammar.specs.Skips.{Step, expect_code, group_end, number_end, ones_end, numbers_end, use_end, inside_end, type_atom_by, type_atom_end, product_end, arrow_end, times_end}
 use Rattle.grammar.proofs.EndLaws.{sign_not, is_yes, is_no, ends_bad, ends-due, ends_as, ends-stop, ends_then, ends-expect, step_is}
 use Rattle.grammar.proofs.StepLaws.{DueAt, code_is, code_not}
@@ -64,10 +67,10 @@ module _ (text : List ℕ) (at : ℕ) (w : Said) (s : Stands text at w) (read : 
   pub atom_one : w.code ≡ 23 → w.value ≡ 1 → (r : End) → Ends text (length (from text w.end) + 1) (ones_end (from text w.end)) r → Ends text (length here) (type_atom_end read here) r
   atom_one e f r t = ends_as text _ (length here) _ (type_atom_end read here) r (omega (arith, (on 22 e).fewer)) (by_number read here (peek here).token true (code_is text at w s 23 e) (eq-eqb _ 1 (sym s.value ∙ f)) ∙ ap ones_end (on 22 e).rest) t
 
-  pub atom_other : w.code ≡ 23 → ¬ (w.value ≡ 1) → (r : End) → DueAt r w → Ends text (length here) (type_atom_end read here) r
+  pub atom_other : w.code ≡ 23 → ¬ (w.value ≡ 1) → (why : Why) → DueAt why w → Ends text (length here) (type_atom_end read here) (Err why)
   atom_other e f r d = ends-due text at (length here) w (type_atom_end read here) r s d (by_number read here (peek here).token false (code_is text at w s 23 e) (ne_eqb _ 1 (λ q. f (s.value ∙ q))))
 
-  pub atom_none : ¬ (w.code ≡ 24) → ¬ (w.code ≡ 11) → ¬ (w.code ≡ 23) → (r : End) → DueAt r w → Ends text (length here) (type_atom_end read here) r
+  pub atom_none : ¬ (w.code ≡ 24) → ¬ (w.code ≡ 11) → ¬ (w.code ≡ 23) → (why : Why) → DueAt why w → Ends text (length here) (type_atom_end read here) (Err why)
   atom_none e f g r d = ends-due text at (length here) w (type_atom_end read here) r s d (by-none read here (peek here).token (code_not text at w s 24 e) (code_not text at w s 11 f) (code_not text at w s 23 g))
 
   product_is : w.code ≡ 10 → product_end read here ≡ read (from text w.end)
@@ -98,73 +101,64 @@ module _ (read : Step) (ws : List Word) (none : is square ws ≡ false) where
   pub use_none : is curly ws ≡ false → use_end read ws ≡ good ws
   use_none e = use_numbers ∙ group_none ws curly endCurly number_end e
 
-module _ (text : List ℕ) (at : ℕ) (read : Step) (t : End) where
-  pub use_stop : Ends text (length (from text at) + 1) (group_end square endSquare read (from text at)) t → ¬ (t.number ≡ 0) → Ends text (length (from text at) + 1) (use_end read (from text at)) t
-  use_stop e z = ends-stop text _ _ (group_end square endSquare read (from text at)) _ (λ us. numbers_end us) t refl e z
+module _ (text : List ℕ) (at : ℕ) (read : Step) where
+  pub use_on : (p : ℕ) → Ends text (length (from text at) + 1) (group_end square endSquare read (from text at)) (Ok p) → (r : End) → Ends text (length (from text p) + 1) (numbers_end (from text p)) r → Ends text (length (from text at) + 1) (use_end read (from text at)) r
+  use_on p e r u = ends_then text _ _ _ (group_end square endSquare read (from text at)) _ (λ us. numbers_end us) p r refl e (omega (arith, e.fewer)) u
 
-  pub use_on : Ends text (length (from text at) + 1) (group_end square endSquare read (from text at)) t → t.number ≡ 0 → (r : End) → Ends text (length (from text t.at) + 1) (numbers_end (from text t.at)) r → Ends text (length (from text at) + 1) (use_end read (from text at)) r
-  use_on e z r u = ends_then text _ _ _ (group_end square endSquare read (from text at)) _ (λ us. numbers_end us) t r refl e z (omega (arith, (e.reaches z).fewer)) u
-
-  pub inside-stop : Ends text (length (from text at)) (read (from text at)) t → ¬ (t.number ≡ 0) → Ends text (length (from text at)) (inside_end read (from text at)) t
-  inside-stop e z = ends-stop text _ _ (read (from text at)) _ (λ us. expect endRound us) t refl e z
-
-  pub inside_on : Ends text (length (from text at)) (read (from text at)) t → t.number ≡ 0 → (r : End) → Ends text (length (from text t.at)) (expect_code 12 (from text t.at)) r → Ends text (length (from text at)) (inside_end read (from text at)) r
-  inside_on e z r u = ends-expect text endRound _ _ (read (from text at)) _ t r refl e z (omega arith) u
+  pub inside_on : (p : ℕ) → Ends text (length (from text at)) (read (from text at)) (Ok p) → (r : End) → Ends text (length (from text p)) (expect_code 12 (from text p)) r → Ends text (length (from text at)) (inside_end read (from text at)) r
+  inside_on p e r u = ends-expect text endRound _ _ (read (from text at)) _ p r refl e (omega arith) u
 
 -- ---- one level of a type
 
 module _ (text : List ℕ) (at more : ℕ) (tight : Bool) where
-  pub type_deep : more ≡ 0 → (w : Said) → Stands text at w → (r : End) → (r.number ≡ 34) × (r.at ≡ w.place) → Ends text (length (from text at)) (type_step more tight (from text at)) r
-  type_deep e w s r d = ends_bad text _ _ r 34 (place (from text at)) (λ z. omega arith) d.0 (d.1 ∙ s.place) (type_none more tight (from text at) e)
+  pub type_deep : more ≡ 0 → (w : Said) → Stands text at w → (why : Why) → why ≡ refusal_at TextLimit w.place → Ends text (length (from text at)) (type_step more tight (from text at)) (Err why)
+  type_deep e w s why d = ends_bad text at w _ TextLimit why s d (type_none more tight (from text at) e)
 
-  module _ (some : ¬ (more ≡ 0)) (a : End) (first : Ends text (length (from text at)) (type_atom_end (type_step (more - 1) false) (from text at)) a) where
+  module _ (some : ¬ (more ≡ 0)) where
     abbrev arrowOn : Step
     arrowOn vs = cond tight (good vs) (arrow_end (type_step (more - 1) false) vs)
 
     abbrev productOn : Step
     productOn us = product_end (type_step (more - 1) true) us >>= λ vs. arrowOn vs
 
-    pub type-stop : ¬ (a.number ≡ 0) → Ends text (length (from text at)) (type_step more tight (from text at)) a
-    type-stop z = ends-stop text _ _ _ _ productOn a (type_by more tight (from text at) some) first z
+    pub type-stop : (why : Why) → Ends text (length (from text at)) (type_atom_end (type_step (more - 1) false) (from text at)) (Err why) → Ends text (length (from text at)) (type_step more tight (from text at)) (Err why)
+    type-stop why first = ends-stop text _ _ productOn why (type_by more tight (from text at) some) first
 
     -- by the word behind the atom
-    module _ (z : a.number ≡ 0) (w : Said) (s : Stands text a.at w) where
+    module _ (a : ℕ) (first : Ends text (length (from text at)) (type_atom_end (type_step (more - 1) false) (from text at)) (Ok a)) (w : Said) (s : Stands text a w) where
       abbrev behind_atom : List Word
-      behind_atom = from text a.at
+      behind_atom = from text a
 
       level-is : (m : Answer (List Word)) → product_end (type_step (more - 1) true) behind_atom ≡ m → type_step more tight (from text at) ≡ (m >>= λ vs. arrowOn vs)
-      level-is m e = step_is text _ _ _ productOn a (type_by more tight (from text at) some) first z ∙ ap (λ (k : Answer (List Word)). k >>= λ vs. arrowOn vs) e
+      level-is m e = step_is text _ _ _ productOn a (type_by more tight (from text at) some) first ∙ ap (λ (k : Answer (List Word)). k >>= λ vs. arrowOn vs) e
 
       pub type-times : w.code ≡ 10 → (r : End) → Ends text (length (from text w.end)) (times_end (type_step (more - 1)) tight (from text w.end)) r → Ends text (length (from text at)) (type_step more tight (from text at)) r
       type-times e r t =
           let o = s.onward (λ q. omega arith) in
-          ends_as text _ _ _ _ r (omega (arith, o.fewer, (first.reaches z).fewer)) (level-is _ (product_is text a.at w s (type_step (more - 1) true) e)) t
+          ends_as text _ _ _ _ r (omega (arith, o.fewer, first.fewer)) (level-is _ (product_is text a w s (type_step (more - 1) true) e)) t
 
       module _ (e : ¬ (w.code ≡ 10)) where
         arrow_is : type_step more tight (from text at) ≡ arrowOn behind_atom
-        arrow_is = level-is _ (product-none text a.at w s (type_step (more - 1) true) e)
+        arrow_is = level-is _ (product-none text a w s (type_step (more - 1) true) e)
 
-        pub type-tight : tight ≡ true → Ends text (length (from text at)) (type_step more tight (from text at)) a
-        type-tight f = record { reaches = λ q. record { is = arrow_is ∙ ap (λ (x : Bool). cond x (good behind_atom) (arrow_end (type_step (more - 1) false) behind_atom)) f; fewer = (first.reaches z).fewer; lexed = (first.reaches z).lexed }; refuses = λ q. absurd (q z) }
+        pub type-tight : tight ≡ true → Ends text (length (from text at)) (type_step more tight (from text at)) (Ok a)
+        type-tight f = record { is = arrow_is ∙ ap (λ (x : Bool). cond x (good behind_atom) (arrow_end (type_step (more - 1) false) behind_atom)) f; fewer = first.fewer; lexed = first.lexed }
 
         pub type-loose : tight ≡ false → (r : End) → Ends text (length behind_atom + 1) (arrow_end (type_step (more - 1) false) behind_atom) r → Ends text (length (from text at)) (type_step more tight (from text at)) r
-        type-loose f r t = ends_as text _ _ _ _ r (omega (arith, (first.reaches z).fewer)) (arrow_is ∙ ap (λ (x : Bool). cond x (good behind_atom) (arrow_end (type_step (more - 1) false) behind_atom)) f) t
+        type-loose f r t = ends_as text _ _ _ _ r (omega (arith, first.fewer)) (arrow_is ∙ ap (λ (x : Bool). cond x (good behind_atom) (arrow_end (type_step (more - 1) false) behind_atom)) f) t
 
 -- ---- behind the sign of a product
 
-module _ (text : List ℕ) (at more : ℕ) (tight : Bool) (b : End) (first : Ends text (length (from text at)) (type_step more true (from text at)) b) where
+module _ (text : List ℕ) (at more : ℕ) (tight : Bool) where
   abbrev onward : Step
   onward vs = cond tight (good vs) (arrow_end (type_step more false) vs)
 
-  pub times-stop : ¬ (b.number ≡ 0) → Ends text (length (from text at)) (times_end (type_step more) tight (from text at)) b
-  times-stop z = ends-stop text _ _ _ _ onward b refl first z
+  module _ (b : ℕ) (first : Ends text (length (from text at)) (type_step more true (from text at)) (Ok b)) where
+    times-is : (x : Bool) → tight ≡ x → times_end (type_step more) tight (from text at) ≡ cond x (good (from text b)) (arrow_end (type_step more false) (from text b))
+    times-is x e = step_is text _ _ _ onward b refl first ∙ ap (λ (k : Bool). cond k (good (from text b)) (arrow_end (type_step more false) (from text b))) e
 
-  module _ (z : b.number ≡ 0) where
-    times-is : (x : Bool) → tight ≡ x → times_end (type_step more) tight (from text at) ≡ cond x (good (from text b.at)) (arrow_end (type_step more false) (from text b.at))
-    times-is x e = step_is text _ _ _ onward b refl first z ∙ ap (λ (k : Bool). cond k (good (from text b.at)) (arrow_end (type_step more false) (from text b.at))) e
+    pub times-tight : tight ≡ true → Ends text (length (from text at)) (times_end (type_step more) tight (from text at)) (Ok b)
+    times-tight e = record { is = times-is true e; fewer = first.fewer; lexed = first.lexed }
 
-    pub times-tight : tight ≡ true → Ends text (length (from text at)) (times_end (type_step more) tight (from text at)) b
-    times-tight e = record { reaches = λ q. record { is = times-is true e; fewer = (first.reaches z).fewer; lexed = (first.reaches z).lexed }; refuses = λ q. absurd (q z) }
-
-    pub times-loose : tight ≡ false → (r : End) → Ends text (length (from text b.at) + 1) (arrow_end (type_step more false) (from text b.at)) r → Ends text (length (from text at)) (times_end (type_step more) tight (from text at)) r
-    times-loose e r t = ends_as text _ _ _ _ r (omega (arith, (first.reaches z).fewer)) (times-is false e) t
+    pub times-loose : tight ≡ false → (r : End) → Ends text (length (from text b) + 1) (arrow_end (type_step more false) (from text b)) r → Ends text (length (from text at)) (times_end (type_step more) tight (from text at)) r
+    times-loose e r t = ends_as text _ _ _ _ r (omega (arith, first.fewer)) (times-is false e) t

@@ -1,11 +1,12 @@
 -- Where a part of the text ends: an offset behind it, or a refusal, as the grammar gives it. Assumes nothing.
-use Rattle.std.specs.Prelude.{ℕ, ◌<◌, ◌≡◌, Bool, List, length}
-use Rattle.calculus.specs.Answer.{Answer, good, refused, refuse}
+use Rattle.std.specs.Prelude.{ℕ, ◌<◌, ◌≡◌, Bool, Result, Ok, Err, List, length}
+use Rattle.calculus.specs.Answer.{Answer, good, refused}
+use Rattle.answers.specs.declared.Refusal.{Refusal as Why}
+use Rattle.answers.specs.Refusals.{said_why}
 use Rattle.notation_calculus.specs.Words.{Word}
 use Rattle.notation_calculus.specs.Grammar.{Got, type_at, term_at}
 use Rattle.words.specs.Next.{Said}
 use Rattle.words.specs.Lexed.{from, Lexed, Stands}
-use Rattle.grammar.specs.declared.steps.End.{End}
 use Rattle.grammar.specs.Skips.{expect_code}
 
 -- the words behind what was read
@@ -31,10 +32,14 @@ pub record Reaches (text : List ℕ) (b : ℕ) (m : Answer (List Word)) (end : �
   pub fewer : length (from text end) < b
   pub lexed : Lexed text end
 
--- .. or a refusal
-pub record Ends (text : List ℕ) (b : ℕ) (m : Answer (List Word)) (r : End) : Type 0 where
-  pub reaches : r.number ≡ 0 → Reaches text b m r.at
-  pub refuses : ¬ (r.number ≡ 0) → m ≡ refuse r.number r.at
+-- an offset behind what was read, or a refusal
+abbrev pub End : Type 0
+End = Result ℕ Why
+
+-- .. is what a step gives
+abbrev pub Ends : List ℕ → ℕ → Answer (List Word) → End → Type 0
+Ends text b m (Ok end) = Reaches text b m end
+Ends text b m (Err why) = m ≡ refused (said_why why)
 
 -- .. of a loop, in any number of rounds that is above the number of words
 abbrev pub EndsIn : List ℕ → ℕ → (ℕ → List Word → Answer (List Word)) → End → Type 0

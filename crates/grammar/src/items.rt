@@ -5,8 +5,8 @@ ghost use Rattle.words.specs.Lexed.{from, Lexed};
 ghost use Rattle.grammar.specs.Ends.{Ends, EndsIn, type_step, term_step};
 ghost use Rattle.grammar.specs.Skips.{name_end, list_end, group_end, head_end, clause_end, item_end, edition_end};
 
-use crate::steps::End;
 use crate::{names, steps, terms, types};
+use answers::{Reason, Refusal};
 
 const TYPE: u8 = 5;
 
@@ -19,7 +19,7 @@ const EQUALS: u8 = 13;
 const MOST_NESTED: usize = 80;
 
 // [ a, b ], or nothing.
-fn parameters_end(text: &[u8], at: usize) -> End
+fn parameters_end(text: &[u8], at: usize) -> Result<usize, Refusal>
     requires { Lexed text.now at }
     ensures { Ends text.now (length (from text.now at) + 1) (group_end square endSquare name_end (from text.now at)) result }
 {
@@ -27,71 +27,56 @@ fn parameters_end(text: &[u8], at: usize) -> End
     if w.kind == steps::SQUARE {
         return names::names_list(text, w.end, steps::END_SQUARE);
     }
-    steps::here(text, at)
+    Ok(at)
 }
 
 // NAME [ a, b ] { n + 1 } =
-pub fn head_end(text: &[u8], at: usize) -> End
+pub fn head_end(text: &[u8], at: usize) -> Result<usize, Refusal>
     requires { Lexed text.now at }
     ensures { Ends text.now (length (from text.now at)) (head_end (from text.now at)) result }
 {
-    let x = steps::name_end(text, at);
-    if x.number != 0 {
-        return x;
-    }
-    let p = parameters_end(text, x.at);
-    if p.number != 0 {
-        return p;
-    }
-    let k = steps::numbers_end(text, p.at);
-    if k.number != 0 {
-        return k;
-    }
-    steps::expect(text, k.at, EQUALS)
+    let x = steps::name_end(text, at)?;
+    let p = parameters_end(text, x)?;
+    let k = steps::numbers_end(text, p)?;
+    steps::expect(text, k, EQUALS)
 }
 
 // A type's definition, behind `type`.
-pub fn type_clause_end(text: &[u8], at: usize) -> End
+pub fn type_clause_end(text: &[u8], at: usize) -> Result<usize, Refusal>
     requires { Lexed text.now at }
     ensures { Ends text.now (length (from text.now at)) (clause_end (type_step 80 false) (from text.now at)) result }
 {
-    let h = head_end(text, at);
-    if h.number != 0 {
-        return h;
-    }
-    types::type_end(text, h.at, MOST_NESTED, false)
+    let h = head_end(text, at)?;
+    types::type_end(text, h, MOST_NESTED, false)
 }
 
 // A term's definition.
-pub fn term_clause_end(text: &[u8], at: usize) -> End
+pub fn term_clause_end(text: &[u8], at: usize) -> Result<usize, Refusal>
     requires { Lexed text.now at }
     ensures { Ends text.now (length (from text.now at)) (clause_end (term_step 80) (from text.now at)) result }
 {
-    let h = head_end(text, at);
-    if h.number != 0 {
-        return h;
-    }
-    terms::term_end(text, h.at, MOST_NESTED)
+    let h = head_end(text, at)?;
+    terms::term_end(text, h, MOST_NESTED)
 }
 
 // Types with commas between, behind `table`.
-fn line_end(text: &[u8], at: usize, more: usize) -> End
+fn line_end(text: &[u8], at: usize, more: usize) -> Result<usize, Refusal>
     requires { Lexed text.now at }
     ensures { EndsIn text.now at (list_end (type_step more false)) result }
 {
-    let mut t = types::type_end(text, at, more, false);
-    while t.number == 0 {
-        let c = words::word_at(text, t.at);
+    let mut t = types::type_end(text, at, more, false)?;
+    loop {
+        let c = words::word_at(text, t);
         if c.kind != steps::COMMA {
-            return t;
+            return Ok(t);
         }
-        t = types::type_end(text, c.end, more, false);
+        t = types::type_end(text, c.end, more, false)?;
     }
-    t
 }
 
 // Where the item at an offset ends.
-pub fn item_end(text: &[u8], at: usize) -> End
+#[inline(always)]
+pub fn item_end(text: &[u8], at: usize) -> Result<usize, Refusal>
     requires { Lexed text.now at }
     ensures { Ends text.now (length (from text.now at)) (item_end (type_step 80 false) (term_step 80) (from text.now at)) result }
 {
@@ -106,29 +91,23 @@ pub fn item_end(text: &[u8], at: usize) -> End
 }
 
 // "edition" 1 or 2, or nothing.
-pub fn edition_end(text: &[u8], at: usize) -> End
+pub fn edition_end(text: &[u8], at: usize) -> Result<usize, Refusal>
     requires { Lexed text.now at }
     ensures { Ends text.now (length (from text.now at) + 1) (edition_end (from text.now at)) result }
 {
     let w = words::word_at(text, at);
     if w.kind != EDITION {
-        return steps::here(text, at);
+        return Ok(at);
     }
     let v = words::word_at(text, w.end);
     if v.kind != words::NUMBER {
-        return steps::refused(32, v.start);
+        return Err(Reason::OtherWordDue.at(v.start));
     }
     if v.value == 1 {
-        return End {
-            number: 0,
-            at: v.end,
-        };
+        return Ok(v.end);
     }
     if v.value == 2 {
-        return End {
-            number: 0,
-            at: v.end,
-        };
+        return Ok(v.end);
     }
-    steps::refused(32, v.start)
+    Err(Reason::OtherWordDue.at(v.start))
 }

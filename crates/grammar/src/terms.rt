@@ -4,8 +4,8 @@ ghost use Rattle.words.specs.Lexed.{from, Lexed};
 ghost use Rattle.grammar.specs.Ends.{Ends, EndsIn, type_step, term_step, WordThere};
 ghost use Rattle.grammar.specs.Skips.{tuple_end, atom_end, spine_end, bound_end, let_body_end};
 
-use crate::steps::End;
 use crate::{heads, names, steps, types};
+use answers::{Reason, Refusal};
 
 const FUN: u8 = 1;
 
@@ -25,26 +25,33 @@ const COLON: u8 = 15;
 
 const DOT: u8 = 16;
 
-// Behind an opening parenthesis: terms with commas between, and the closing one.
+// Behind an opening parenthesis: terms with commas between, and the closing one. Not inlined, so that `atom_end` takes no stack at each level.
+#[inline(never)]
 #[cycle(atom_end_bound_end_let_body_end_spine_end_term_end_tuple_end)]
-fn tuple_end(text: &[u8], at: usize, more: usize) -> End
+fn tuple_end(text: &[u8], at: usize, more: usize) -> Result<usize, Refusal>
     requires { Lexed text.now at }
     ensures { EndsIn text.now at (tuple_end (term_step more)) result }
 {
-    let mut t = term_end(text, at, more);
-    while t.number == 0 {
-        let c = words::word_here(text, t.at);
+    let mut t = term_end(text, at, more)?;
+    loop {
+        let c = words::word_here(text, t);
         if c.kind != steps::COMMA {
             return steps::expect_word(c, END_ROUND);
         }
-        t = term_end(text, c.end, more);
+        t = term_end(text, c.end, more)?;
     }
-    t
 }
 
 // By the word at an offset: a name that is used, a part, or terms in parentheses. A word is passed on by its fields, which take no stack at each level.
 #[cycle(atom_end_bound_end_let_body_end_spine_end_term_end_tuple_end)]
-fn atom_end(text: &[u8], at: usize, more: usize, kind: u8, start: usize, end: usize) -> End
+fn atom_end(
+    text: &[u8],
+    at: usize,
+    more: usize,
+    kind: u8,
+    start: usize,
+    end: usize,
+) -> Result<usize, Refusal>
     requires { (Lexed text.now at) × (WordThere text.now at kind start end) }
     ensures { Ends text.now (length (from text.now at)) (atom_end (term_step more) (type_step more false) (from text.now at)) result }
 {
@@ -55,100 +62,79 @@ fn atom_end(text: &[u8], at: usize, more: usize, kind: u8, start: usize, end: us
         return tuple_end(text, end, more);
     }
     if kind == words::PART {
-        return End { number: 0, at: end };
+        return Ok(end);
     }
-    steps::refused(32, start)
+    Err(Reason::OtherWordDue.at(start))
 }
 
 // An atom, and the atoms that it is applied to: up to the next head, or a word that begins no atom.
 #[cycle(atom_end_bound_end_let_body_end_spine_end_term_end_tuple_end)]
-fn spine_end(text: &[u8], at: usize, more: usize, kind: u8, start: usize, end: usize) -> End
+fn spine_end(
+    text: &[u8],
+    at: usize,
+    more: usize,
+    kind: u8,
+    start: usize,
+    end: usize,
+) -> Result<usize, Refusal>
     requires { (Lexed text.now at) × (WordThere text.now at kind start end) }
     ensures { Ends text.now (length (from text.now at)) (spine_end (term_step more) (type_step more false) (from text.now at)) result }
 {
-    let mut t = atom_end(text, at, more, kind, start, end);
-    while t.number == 0 {
-        let w = words::word_at(text, t.at);
-        if !heads::word_begins(text, t.at, w) {
-            return t;
+    let mut t = atom_end(text, at, more, kind, start, end)?;
+    loop {
+        let w = words::word_at(text, t);
+        if !heads::word_begins(text, t, w) {
+            return Ok(t);
         }
-        t = atom_end(text, t.at, more, w.kind, w.start, w.end);
+        t = atom_end(text, t, more, w.kind, w.start, w.end)?;
     }
-    t
 }
 
 // : type . term
 #[cycle(atom_end_bound_end_let_body_end_spine_end_term_end_tuple_end)]
-fn bound_end(text: &[u8], at: usize, more: usize) -> End
+fn bound_end(text: &[u8], at: usize, more: usize) -> Result<usize, Refusal>
     requires { Lexed text.now at }
     ensures { Ends text.now (length (from text.now at)) (bound_end (term_step more) (type_step more false) (from text.now at)) result }
 {
-    let c = steps::expect(text, at, COLON);
-    if c.number != 0 {
-        return c;
-    }
-    let t = types::type_end(text, c.at, more, false);
-    if t.number != 0 {
-        return t;
-    }
-    let d = steps::expect(text, t.at, DOT);
-    if d.number != 0 {
-        return d;
-    }
-    term_end(text, d.at, more)
+    let c = steps::expect(text, at, COLON)?;
+    let t = types::type_end(text, c, more, false)?;
+    let d = steps::expect(text, t, DOT)?;
+    term_end(text, d, more)
 }
 
 // = term in term
 #[cycle(atom_end_bound_end_let_body_end_spine_end_term_end_tuple_end)]
-fn let_body_end(text: &[u8], at: usize, more: usize) -> End
+fn let_body_end(text: &[u8], at: usize, more: usize) -> Result<usize, Refusal>
     requires { Lexed text.now at }
     ensures { Ends text.now (length (from text.now at)) (let_body_end (term_step more) (from text.now at)) result }
 {
-    let c = steps::expect(text, at, EQUALS);
-    if c.number != 0 {
-        return c;
-    }
-    let v = term_end(text, c.at, more);
-    if v.number != 0 {
-        return v;
-    }
-    let d = steps::expect(text, v.at, IN);
-    if d.number != 0 {
-        return d;
-    }
-    term_end(text, d.at, more)
+    let c = steps::expect(text, at, EQUALS)?;
+    let v = term_end(text, c, more)?;
+    let d = steps::expect(text, v, IN)?;
+    term_end(text, d, more)
 }
 
 // Where the term at an offset ends: 32, or 34 where there are more than so many levels.
 #[cycle(atom_end_bound_end_let_body_end_spine_end_term_end_tuple_end)]
-pub fn term_end(text: &[u8], at: usize, more: usize) -> End
+pub fn term_end(text: &[u8], at: usize, more: usize) -> Result<usize, Refusal>
     requires { Lexed text.now at }
     ensures { Ends text.now (length (from text.now at)) (term_step more (from text.now at)) result }
 {
     let w = words::word_at(text, at);
     if more == 0 {
-        return steps::refused(34, w.start);
+        return Err(Reason::TextLimit.at(w.start));
     }
     if w.kind == FUN {
-        let x = names::binds_end(text, w.end, more);
-        if x.number != 0 {
-            return x;
-        }
-        return bound_end(text, x.at, more - 1);
+        let x = names::binds_end(text, w.end, more)?;
+        return bound_end(text, x, more - 1);
     }
     if w.kind == FIX {
-        let x = steps::name_end(text, w.end);
-        if x.number != 0 {
-            return x;
-        }
-        return bound_end(text, x.at, more - 1);
+        let x = steps::name_end(text, w.end)?;
+        return bound_end(text, x, more - 1);
     }
     if w.kind == LET {
-        let x = names::one_end(text, w.end, more);
-        if x.number != 0 {
-            return x;
-        }
-        return let_body_end(text, x.at, more - 1);
+        let x = names::one_end(text, w.end, more)?;
+        return let_body_end(text, x, more - 1);
     }
     spine_end(text, at, more - 1, w.kind, w.start, w.end)
 }

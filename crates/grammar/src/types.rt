@@ -7,7 +7,7 @@ ghost use Rattle.grammar.specs.Ends.{Ends, type_step};
 ghost use Rattle.grammar.specs.Skips.{group_end, use_end, inside_end, type_atom_end, arrow_end, times_end};
 
 use crate::steps;
-use crate::steps::End;
+use answers::{Reason, Refusal};
 use words::Word;
 
 const ARROW: u8 = 8;
@@ -22,28 +22,27 @@ const END_ROUND: u8 = 12;
 
 // [ type, type ], or nothing.
 #[cycle(arguments_end_arrow_end_atom_end_inside_end_product_end_type_end_use_end)]
-pub fn arguments_end(text: &[u8], at: usize, more: usize) -> End
+pub fn arguments_end(text: &[u8], at: usize, more: usize) -> Result<usize, Refusal>
     requires { Lexed text.now at }
     ensures { Ends text.now (length (from text.now at) + 1) (group_end square endSquare (type_step more false) (from text.now at)) result }
 {
     let w = words::word_at(text, at);
     if w.kind != steps::SQUARE {
-        return steps::here(text, at);
+        return Ok(at);
     }
-    let mut t = type_end(text, w.end, more, false);
-    while t.number == 0 {
-        let c = words::word_at(text, t.at);
+    let mut t = type_end(text, w.end, more, false)?;
+    loop {
+        let c = words::word_at(text, t);
         if c.kind != steps::COMMA {
             return steps::expect_word(c, steps::END_SQUARE);
         }
-        t = type_end(text, c.end, more, false);
+        t = type_end(text, c.end, more, false)?;
     }
-    t
 }
 
 // Behind a name that is used: its types and its numbers.
 #[cycle(arguments_end_arrow_end_atom_end_inside_end_product_end_type_end_use_end)]
-pub fn use_end(text: &[u8], at: usize, more: usize) -> End
+pub fn use_end(text: &[u8], at: usize, more: usize) -> Result<usize, Refusal>
     requires { Lexed text.now at }
     ensures { Ends text.now (length (from text.now at) + 1) (use_end (type_step more false) (from text.now at)) result }
 {
@@ -52,31 +51,25 @@ pub fn use_end(text: &[u8], at: usize, more: usize) -> End
         return steps::numbers_end(text, at);
     }
     if kind != steps::SQUARE {
-        return steps::here(text, at);
+        return Ok(at);
     }
-    let t = arguments_end(text, at, more);
-    if t.number != 0 {
-        return t;
-    }
-    steps::numbers_end(text, t.at)
+    let t = arguments_end(text, at, more)?;
+    steps::numbers_end(text, t)
 }
 
 // Behind an opening parenthesis: a type, and the closing one.
 #[cycle(arguments_end_arrow_end_atom_end_inside_end_product_end_type_end_use_end)]
-fn inside_end(text: &[u8], at: usize, more: usize) -> End
+fn inside_end(text: &[u8], at: usize, more: usize) -> Result<usize, Refusal>
     requires { Lexed text.now at }
     ensures { Ends text.now (length (from text.now at)) (inside_end (type_step more false) (from text.now at)) result }
 {
-    let t = type_end(text, at, more, false);
-    if t.number != 0 {
-        return t;
-    }
-    steps::expect(text, t.at, END_ROUND)
+    let t = type_end(text, at, more, false)?;
+    steps::expect(text, t, END_ROUND)
 }
 
 // 1, bits in a row, a name that is used, or a type in parentheses.
 #[cycle(arguments_end_arrow_end_atom_end_inside_end_product_end_type_end_use_end)]
-fn atom_end(text: &[u8], at: usize, more: usize) -> End
+fn atom_end(text: &[u8], at: usize, more: usize) -> Result<usize, Refusal>
     requires { Lexed text.now at }
     ensures { Ends text.now (length (from text.now at)) (type_atom_end (type_step more false) (from text.now at)) result }
 {
@@ -91,14 +84,14 @@ fn atom_end(text: &[u8], at: usize, more: usize) -> End
         if w.value == 1 {
             return steps::ones_end(text, w.end);
         }
-        return steps::refused(32, w.start);
+        return Err(Reason::OtherWordDue.at(w.start));
     }
-    steps::refused(32, w.start)
+    Err(Reason::OtherWordDue.at(w.start))
 }
 
 // By the word at an offset: -> type, -o type, or nothing.
 #[cycle(arguments_end_arrow_end_atom_end_inside_end_product_end_type_end_use_end)]
-fn arrow_end(text: &[u8], at: usize, more: usize, w: Word) -> End
+fn arrow_end(text: &[u8], at: usize, more: usize, w: Word) -> Result<usize, Refusal>
     requires { (Lexed text.now at) × (Stands text.now at (said_word w)) }
     ensures { Ends text.now (length (from text.now at) + 1) (arrow_end (type_step more false) (from text.now at)) result }
 {
@@ -108,46 +101,40 @@ fn arrow_end(text: &[u8], at: usize, more: usize, w: Word) -> End
     if w.kind == LINEAR {
         return type_end(text, w.end, more, false);
     }
-    steps::here(text, at)
+    Ok(at)
 }
 
 // Behind the sign of a product: a type, and an arrow where one is read.
 #[cycle(arguments_end_arrow_end_atom_end_inside_end_product_end_type_end_use_end)]
-fn product_end(text: &[u8], at: usize, more: usize, tight: bool) -> End
+fn product_end(text: &[u8], at: usize, more: usize, tight: bool) -> Result<usize, Refusal>
     requires { Lexed text.now at }
     ensures { Ends text.now (length (from text.now at)) (times_end (type_step more) tight (from text.now at)) result }
 {
-    let b = type_end(text, at, more, true);
-    if b.number != 0 {
-        return b;
-    }
+    let b = type_end(text, at, more, true)?;
     if tight {
-        return b;
+        return Ok(b);
     }
-    let w = words::word_at(text, b.at);
-    arrow_end(text, b.at, more, w)
+    let w = words::word_at(text, b);
+    arrow_end(text, b, more, w)
 }
 
 // Where the type at an offset ends: 32, or 34 where there are more than so many levels. Behind a product no arrow is read.
 #[cycle(arguments_end_arrow_end_atom_end_inside_end_product_end_type_end_use_end)]
-pub fn type_end(text: &[u8], at: usize, more: usize, tight: bool) -> End
+pub fn type_end(text: &[u8], at: usize, more: usize, tight: bool) -> Result<usize, Refusal>
     requires { Lexed text.now at }
     ensures { Ends text.now (length (from text.now at)) (type_step more tight (from text.now at)) result }
 {
     if more == 0 {
         let w = words::word_at(text, at);
-        return steps::refused(34, w.start);
+        return Err(Reason::TextLimit.at(w.start));
     }
-    let a = atom_end(text, at, more - 1);
-    if a.number != 0 {
-        return a;
-    }
-    let w = words::word_at(text, a.at);
+    let a = atom_end(text, at, more - 1)?;
+    let w = words::word_at(text, a);
     if w.kind == TIMES {
         return product_end(text, w.end, more - 1, tight);
     }
     if tight {
-        return a;
+        return Ok(a);
     }
-    arrow_end(text, a.at, more - 1, w)
+    arrow_end(text, a, more - 1, w)
 }

@@ -50,10 +50,10 @@ module _ (m : Net) where
   backs-more k o = rw (add-one k) (backs-back m k o)
 
 -- on the way back from the mark: x is reached
-pub record Walking (m : Net) (mark x steps left : ℕ) : Type 0 where
+pub record Walking (m : Net) (mark x steps taken : ℕ) : Type 0 where
   pub output : T (is_out m.elements x)
-  pub near : backs (steps - left) m mark ≡ x
-  pub few : left ≤ steps
+  pub near : backs taken m mark ≡ x
+  pub few : taken ≤ steps
 
 -- on the way back from o: the mark stands where all walks before have ended
 pub record Meeting (m : Net) (o mark span : ℕ) : Type 0 where
@@ -62,12 +62,12 @@ pub record Meeting (m : Net) (o mark span : ℕ) : Type 0 where
   pub some : 1 ≤ span
 
 -- on the way round from o: x is reached, and the lowest so far is low
-pub record Rounding (w : List ℕ) (m : Net) (o x low left : ℕ) : Type 0 where
+pub record Rounding (w : List ℕ) (m : Net) (o x low taken : ℕ) : Type 0 where
   pub output : T (is_out m.elements x)
-  pub far : backs (8192 - left) m o ≡ x
-  pub first : (entry w o ≡ 65535 → ⊥) → (x ≡ o) × (left ≡ 8192)
-  pub lowest_so : lowest (8192 - left + 1) m o o ≡ low
-  pub few : left ≤ 8192
+  pub far : backs taken m o ≡ x
+  pub first : (entry w o ≡ 65535 → ⊥) → (x ≡ o) × (taken ≡ 0)
+  pub lowest_so : lowest (taken + 1) m o o ≡ low
+  pub few : taken ≤ 8192
 
 module _ (w : List ℕ) (e k p : ℕ) (q : Partly w e k p) where
   abbrev m : Net
@@ -94,26 +94,24 @@ module _ (w : List ℕ) (e k p : ℕ) (q : Partly w e k p) where
       let z : n - 8192 + 8192 ≡ n = omega arith in
       subst (Comes m) (sym (backs_add m (n - 8192) 8192 o) ∙ ap (λ (y : ℕ). backs y m o) z) (comes (backs (n - 8192) m o))
 
-  pub walking_start : (mark steps : ℕ) → T (is_out m.elements mark) → Walking m mark mark steps steps
-  walking_start mark steps t = let z : steps - steps ≡ 0 = omega arith in record { output = t; near = ap (λ (y : ℕ). backs y m mark) z; few = omega arith }
+  pub walking_start : (mark steps : ℕ) → T (is_out m.elements mark) → Walking m mark mark steps 0
+  walking_start mark steps t = record { output = t; near = refl; few = omega arith }
 
-  pub walking_step : (mark x steps left : ℕ) → Walking m mark x steps left → 0 < left → entry w x ≡ 65535 → Walking m mark (get_or w (x - 1) 0) steps (left - 1)
-  walking_step mark x steps left g h z =
-      let f : steps - (left - 1) ≡ steps - left + 1 = let l = g.few in omega arith in
-      record {
-        output = back_below w e k p q x g.output z;
-        near = ap (λ (y : ℕ). backs y m mark) f ∙ backs-more m (steps - left) mark ∙ ap (back m) g.near ∙ (q.loose x g.output z).1;
-        few = let l = g.few in omega arith;
-      }
+  pub walking_step : (mark x steps taken : ℕ) → Walking m mark x steps taken → taken < steps → entry w x ≡ 65535 → Walking m mark (get_or w (x - 1) 0) steps (taken + 1)
+  walking_step mark x steps taken g h z = record {
+    output = back_below w e k p q x g.output z;
+    near = backs-more m taken mark ∙ ap (back m) g.near ∙ (q.loose x g.output z).1;
+    few = omega arith;
+  }
 
-  pub walked-settled : (mark x steps left : ℕ) → Walking m mark x steps left → (entry w x ≡ 65535 → ⊥) → WalkedBack w e k p mark steps x
-  walked-settled mark x steps left g d = record { taken = steps - left; few = omega arith; output = g.output; near = g.near; some = λ _ z. absurd (d z); whole = λ _ z. absurd (d z) }
+  pub walked-settled : (mark x steps taken : ℕ) → Walking m mark x steps taken → (entry w x ≡ 65535 → ⊥) → WalkedBack w e k p mark steps x
+  walked-settled mark x steps taken g d = record { taken = taken; few = g.few; output = g.output; near = g.near; some = λ _ z. absurd (d z); whole = λ _ z. absurd (d z) }
 
-  pub walked-mark : (mark x steps left : ℕ) → Walking m mark x steps left → left < steps → x ≡ mark → WalkedBack w e k p mark steps x
-  walked-mark mark x steps left g h z = record { taken = steps - left; few = omega arith; output = g.output; near = g.near; some = λ _ _. omega arith; whole = λ d _. absurd (d z) }
+  pub walked-mark : (mark x steps taken : ℕ) → Walking m mark x steps taken → 0 < taken → x ≡ mark → WalkedBack w e k p mark steps x
+  walked-mark mark x steps taken g h z = record { taken = taken; few = g.few; output = g.output; near = g.near; some = λ _ _. h; whole = λ d _. absurd (d z) }
 
-  pub walked_end : (mark x steps left : ℕ) → Walking m mark x steps left → left ≡ 0 → 1 ≤ steps → WalkedBack w e k p mark steps x
-  walked_end mark x steps left g z h = record { taken = steps - left; few = omega arith; output = g.output; near = g.near; some = λ _ _. omega arith; whole = λ _ _. omega arith }
+  pub walked_end : (mark x steps : ℕ) → Walking m mark x steps steps → 1 ≤ steps → WalkedBack w e k p mark steps x
+  walked_end mark x steps g h = record { taken = steps; few = g.few; output = g.output; near = g.near; some = λ _ _. h; whole = λ _ _. refl }
 
   -- ---- one walk after the other
 
@@ -151,38 +149,34 @@ module _ (w : List ℕ) (e k p : ℕ) (q : Partly w e k p) where
 
   -- ---- once round
 
-  pub rounding-start : (o : ℕ) → T (is_out m.elements o) → Rounding w m o o o 8192
+  pub rounding-start : (o : ℕ) → T (is_out m.elements o) → Rounding w m o o o 0
   rounding-start o t = record { output = t; far = refl; first = λ d. (refl, refl); lowest_so = min-eq_left (le_refl o); few = omega arith }
 
-  next-left : (left : ℕ) → 0 < left → left ≤ 8192 → 8192 - (left - 1) ≡ 8192 - left + 1
-  next-left left h l = omega arith
-
   -- one step further, with the lower of the two
-  pub rounding-step : (o x y low left : ℕ) → Rounding w m o x low left → 0 < left → entry w x ≡ 65535 → y ≡ min low (get_or w (x - 1) 0)
-      → Rounding w m o (get_or w (x - 1) 0) y (left - 1)
-  rounding-step o x y low left g h z f =
+  pub rounding-step : (o x y low taken : ℕ) → Rounding w m o x low taken → taken < 8192 → entry w x ≡ 65535 → y ≡ min low (get_or w (x - 1) 0)
+      → Rounding w m o (get_or w (x - 1) 0) y (taken + 1)
+  rounding-step o x y low taken g h z f =
       let s = (q.loose x g.output z).1 in
-      let n = next-left left h g.few in
-      let far : backs (8192 - left + 1) m o ≡ get_or w (x - 1) 0 = backs-more m (8192 - left) o ∙ ap (back m) g.far ∙ s in
+      let far : backs (taken + 1) m o ≡ get_or w (x - 1) 0 = backs-more m taken o ∙ ap (back m) g.far ∙ s in
       record {
         output = back_below w e k p q x g.output z;
-        far = rw n far;
+        far = far;
         first = λ d. absurd (d (ap (entry w) (sym (g.first d).0) ∙ z));
-        lowest_so = rw n (lowest-more m (8192 - left + 1) o o ∙ rw (g.lowest_so, far) (sym f));
-        few = let l = g.few in omega arith;
+        lowest_so = lowest-more m (taken + 1) o o ∙ rw (g.lowest_so, far) (sym f);
+        few = omega arith;
       }
 
-  pub round_settled : (o x low left : ℕ) → Rounding w m o x low left → (entry w x ≡ 65535 → ⊥) → entry w x ≡ root m o
-  round_settled o x low left g d = q.right x g.output d ∙ ap (root m) (sym g.far) ∙ root_steps m (8192 - left) o
+  pub round_settled : (o x low taken : ℕ) → Rounding w m o x low taken → (entry w x ≡ 65535 → ⊥) → entry w x ≡ root m o
+  round_settled o x low taken g d = q.right x g.output d ∙ ap (root m) (sym g.far) ∙ root_steps m taken o
 
-  pub round_back : (o x low left : ℕ) → Rounding w m o x low left → entry w x ≡ 65535 → get_or w (x - 1) 0 ≡ o → low ≡ root m o
-  round_back o x low left g z f =
+  pub round_back : (o x low taken : ℕ) → Rounding w m o x low taken → entry w x ≡ 65535 → get_or w (x - 1) 0 ≡ o → low ≡ root m o
+  round_back o x low taken g z f =
       let s = (q.loose x g.output z).1 in
-      sym (root-lowest m (8192 - left + 1) o (omega arith) (backs-more m (8192 - left) o ∙ ap (back m) g.far ∙ s ∙ f) ∙ g.lowest_so)
+      sym (root-lowest m (taken + 1) o (omega arith) (backs-more m taken o ∙ ap (back m) g.far ∙ s ∙ f) ∙ g.lowest_so)
 
-  pub round_end : (o x low left : ℕ) → Rounding w m o x low left → left ≡ 0 → (entry w o ≡ 65535 → Comes m o) → low ≡ root m o
-  round_end o x low left g z c =
+  pub round_end : (o x low taken : ℕ) → Rounding w m o x low taken → 8192 ≤ taken → (entry w o ≡ 65535 → Comes m o) → low ≡ root m o
+  round_end o x low taken g h c =
       elim (ℕ_discrete (entry w o) 65535) [
-        | yes f ↦ sym (root_round m o (8192 - left + 1) (c f) (omega arith) ∙ g.lowest_so)
+        | yes f ↦ sym (root_round m o (taken + 1) (c f) (omega arith) ∙ g.lowest_so)
         | no d ↦ absurd (let f = (g.first d).1 in omega arith)
       ]

@@ -71,19 +71,19 @@ met-root w e k p o x r m z = z ∙ m.same
 
 -- ---- from o back, each gets the root r; x is next
 
-pub record SettlingOne (w₀ w : List ℕ) (e k p o r x left : ℕ) : Type 0 where
+pub record SettlingOne (w₀ w : List ℕ) (e k p o r x taken : ℕ) : Type 0 where
   pub within : Within w₀ w
   pub partly : Partly w e k p
   pub output : T (is_out (net_in w e k p).elements x)
   pub same : r ≡ root (net_in w e k p) x
   pub still : (y : ℕ) → (entry w₀ y ≡ 65535 → ⊥) → entry w y ≡ 65535 → ⊥
-  pub first : entry w o ≡ 65535 → (x ≡ o) × (left ≡ 8192)
+  pub first : entry w o ≡ 65535 → (x ≡ o) × (taken ≡ 0)
 
 pub settling_start : (w : List ℕ) (e k p o r : ℕ) → Partly w e k p → T (is_out (net_in w e k p).elements o) → r ≡ root (net_in w e k p) o
-    → SettlingOne w w e k p o r o 8192
+    → SettlingOne w w e k p o r o 0
 settling_start w e k p o r q t z = record { within = within_none w; partly = q; output = t; same = z; still = λ y d. d; first = λ f. (refl, refl) }
 
-module _ (w₀ w : List ℕ) (e k p o r x left : ℕ) (s : SettlingOne w₀ w e k p o r x left) where
+module _ (w₀ w : List ℕ) (e k p o r x taken : ℕ) (s : SettlingOne w₀ w e k p o r x taken) where
   -- x is settled already
   pub settled-met : (entry w x ≡ 65535 → ⊥) → Settled w₀ w e k p o
   settled-met d = record {
@@ -94,7 +94,7 @@ module _ (w₀ w : List ℕ) (e k p o r x left : ℕ) (s : SettlingOne w₀ w e 
   }
 
   -- a step was made
-  pub settled-end : left < 8192 → Settled w₀ w e k p o
+  pub settled-end : 0 < taken → Settled w₀ w e k p o
   settled-end l = record {
     within = s.within;
     partly = s.partly;
@@ -129,7 +129,7 @@ module _ (w₀ w : List ℕ) (e k p o r x left : ℕ) (s : SettlingOne w₀ w e 
         | no f ↦ f (sym (s.first (sym (entry_other w x o r f) ∙ z)).0)
       ]
 
-  pub settling_step : entry w x ≡ 65535 → SettlingOne w₀ w₁ e k p o r (get_or w (x - 1) 0) (left - 1)
+  pub settling_step : entry w x ≡ 65535 → SettlingOne w₀ w₁ e k p o r (get_or w (x - 1) 0) (taken + 1)
   settling_step z =
       let h = within-set w x r x_below in
       let net = net-same w e k p s.partly.ready w₁ h.size h.below in
@@ -165,8 +165,8 @@ module _ (w : List ℕ) (e k p o : ℕ) (q : Partly w e k p) (t : T (is_out (net
   -- that root is entered
   pub settled_near : (r : ℕ) → r ≡ root m₂ o → Settled w (set w (roots_at + o) r) e k p o
   settled_near r h =
-      settled-end w (set w (roots_at + o) r) e k p o r (get_or w (o - 1) 0) 8191
-      (settling_step w w e k p o r o 8192 (settling_start w e k p o r q t h) z) (omega arith)
+      settled-end w (set w (roots_at + o) r) e k p o r (get_or w (o - 1) 0) 1
+      (settling_step w w e k p o r o 0 (settling_start w e k p o r q t h) z) (omega arith)
 
 -- ---- all are settled
 

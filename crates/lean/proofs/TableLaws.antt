@@ -2,15 +2,15 @@
 use Prim.Native.Nat.{ℕ, ◌+◌, ◌≤◌, ◌<◌}
 use mathlib.Core.Path.{◌≡◌, refl, sym, ap, ◌∙◌, subst}
 use mathlib.Core.Logic.{◌≢◌}
-use mathlib.Core.List.{List, ◌∷◌}
+use mathlib.Core.List.{List, ◌∷◌, ◌++◌, append_assoc}
 use native.Mathlib.Omega.{arith}
-use native.Mathlib.Decide.{ℕ_discrete}
-use lib.ListN.{length, get_or, set, drop, length-set}
-use lib.Seq.{get_or-set_same, get_or-set_other}
+use lib.ListN.{length, get_or, set, take, drop, replicate, length-set, length-replicate, get_or-replicate}
+use lib.Seq.{sets, sets-eq, length-sets, drop-drop, get_or-set_same, get_or-set_other}
+use Rattle.laws.proofs.Regions.{sets-before, sets_outside, sets-read, region-at}
 use borrow.Author.Tests.{ne_eqb, eq-eqb}
 use Rattle.memory.specs.Map.{elements_at, roots_at, memory_size, region}
 use Rattle.netlist.specs.Elements.{output_of, after, after_all}
-use Rattle.lean.specs.Table.{entry, Within, start_root, started}
+use Rattle.lean.specs.Table.{entry, Within, Blank, start_root, started}
 use Rattle.netlist.proofs.Elements.{after-rises}
 use Rattle.lean.proofs.KindLaws.{output-low, region-next}
 
@@ -38,13 +38,27 @@ entry-same w x v l h = get_or-set_same w (roots_at + x) v 0 (omega arith)
 pub entry_other : (w : List ℕ) (x y v : ℕ) → (y ≡ x → ⊥) → entry (set w (roots_at + x) v) y ≡ entry w y
 entry_other w x y v d = let ne : roots_at + y ≢ roots_at + x = λ e. d (omega arith) in get_or-set_other w (roots_at + x) (roots_at + y) v 0 ne
 
--- one entry more is 0
-pub blank-more : (w : List ℕ) (i : ℕ) → memory_size ≤ length w → i < 8192 → ((x : ℕ) → x < i → entry w x ≡ 0) → (x : ℕ) → x < i + 1 → entry (set w (roots_at + i) 0) x ≡ 0
-blank-more w i l h z x lt =
-    elim (ℕ_discrete x i) [
-      | yes e ↦ ap (entry (set w (roots_at + i) 0)) e ∙ entry-same w i 0 l h
-      | no d ↦ entry_other w i x 0 d ∙ z x (omega arith)
-    ]
+-- a part filled is a run stored
+pub filled : (w : List ℕ) (a n : ℕ) → a + n ≤ length w → take a w ++ (replicate n 0 ++ drop n (drop a w)) ≡ sets w a (replicate n 0)
+filled w a n h =
+    let vs = replicate n 0 in
+    let l = length-replicate n 0 in
+    ap (λ (r : List ℕ). take a w ++ (vs ++ r)) (drop-drop n a w) ∙ sym (append_assoc (take a w) vs (drop (a + n) w))
+    ∙ sym (sets-eq vs w a (omega arith) ∙ ap (λ (k : ℕ). take a w ++ vs ++ drop (a + k) w) l)
+
+-- all entries 0
+pub blanked : (w : List ℕ) (n : ℕ) → n ≡ 8192 → memory_size ≤ length w → Blank w (sets w roots_at (replicate n 0))
+blanked w n e h =
+    let vs : List ℕ = replicate n 0 in
+    let l : length vs ≡ 8192 = length-replicate n 0 ∙ e in
+    record {
+      within = record {
+        size = length-sets w roots_at vs;
+        below = λ j g. sets-before vs w roots_at j 0 g;
+        above = λ j g. sets_outside vs w roots_at j 0 (λ z. omega (arith, g)) (omega (arith, g, l));
+      };
+      none = λ x g. sym (region-at (sets w roots_at vs) roots_at (length vs) x (omega (arith, g, l))) ∙ ap (λ (v : List ℕ). get_or v x 0) (sets-read vs w roots_at (omega (arith, l, h))) ∙ get_or-replicate n x 0 0 (omega (arith, g, e));
+    }
 
 -- ---- how it starts
 

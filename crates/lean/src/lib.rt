@@ -15,6 +15,9 @@ mod pass;
 mod put;
 mod table;
 
+use put::Writer;
+use table::Full;
+
 // The lean netlist by terminal: where it stands, and what its numbers say.
 pub use pass::{KIND, LEAN, LEFT_OUT, PINS, behind, first_of};
 
@@ -25,10 +28,13 @@ pub fn roots(work: &mut [u16], elements: usize, wires: usize, pins: usize) -> u1
 {
     table::blank(work);
     let end = table::start(work, elements);
-    let mut n: u16 = 0;
-    while n < end {
-        table::root_one(work, elements, wires, pins, n);
-        n = n + 1;
+    let full = Full {
+        elements,
+        wires,
+        pins,
+    };
+    for n in 0..end {
+        table::root_one(work, full, n);
     }
     end
 }
@@ -50,7 +56,13 @@ pub fn lean_length(work: &[u16], end: usize, pins: usize, plain: bool) -> usize
     requires { LeanReady work.now end pins }
     ensures { result ≡ length (written plain (lean_in work.now end pins) (lean_makers_in work.now end 0 (drop makers_at work.now))) }
 {
-    put::size(work, end, pins, plain) + 3 * pins
+    let writer = Writer {
+        work,
+        end,
+        pins,
+        plain,
+    };
+    writer.size() + 3 * pins
 }
 
 // Its bytes, from the start of the output; their number.
@@ -59,7 +71,13 @@ pub fn write_lean(work: &[u16], out: &mut [u8], end: usize, pins: usize, plain: 
     ensures { (result ≡ length (written plain (lean_in work.now end pins) (lean_makers_in work.now end 0 (drop makers_at work.now))))
         × (out.new ≡ sets out.old 0 (written plain (lean_in work.now end pins) (lean_makers_in work.now end 0 (drop makers_at work.now)))) }
 {
-    let first = put::put_elements(work, end, pins, out, 0, plain);
-    let second = put::put_wires(work, end, pins, out, first);
-    put::put_pins(work, end, pins, out, second)
+    let writer = Writer {
+        work,
+        end,
+        pins,
+        plain,
+    };
+    let first = writer.put_elements(out, 0);
+    let second = writer.put_wires(out, first);
+    writer.put_pins(out, second)
 }

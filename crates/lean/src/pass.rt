@@ -35,10 +35,8 @@ pub fn link(work: &mut [u16], end: u16)
     requires { Linkable work.old end }
     ensures { Linked work.old end work.new }
 {
-    let mut x: usize = 0;
-    while x < end as usize {
+    for x in 0..end as usize {
         link_one(work, x);
-        x = x + 1;
     }
 }
 
@@ -58,11 +56,9 @@ pub fn root_pins(work: &mut [u16], pins: usize)
     requires { Rootable work.old pins }
     ensures { Pinned work.old pins work.new }
 {
-    let mut j: usize = 0;
-    while j < pins {
+    for j in 0..pins {
         let code = work[STACK + j];
         work[PINS + j] = rooted(&work[..], code);
-        j = j + 1;
     }
 }
 
@@ -101,11 +97,9 @@ pub fn name(work: &mut [u16], elements: usize)
     ensures { work.new ≡ named_all work.old (elements_from (region work.old elements_at elements) 0) }
 {
     let mut n: u16 = 0;
-    let mut i: usize = 0;
-    while i < elements {
+    for i in 0..elements {
         let kind = work[ELEMENTS + i];
         n = name_one(work, kind, n);
-        i = i + 1;
     }
 }
 

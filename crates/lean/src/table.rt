@@ -1,5 +1,5 @@
 // The table of roots: how it starts, how an output is settled, and what it says of a point.
-ghost use Rattle.std.specs.Prelude.{◌≡◌, ◌+◌, ◌-◌, ◌≤◌, ◌<◌, length, get_or, set};
+ghost use Rattle.std.specs.Prelude.{◌≡◌, ◌+◌, ◌-◌, ◌≤◌, ◌<◌, length, get_or, set, IfSome};
 ghost use Rattle.calculus.specs.Lean.{root};
 ghost use Rattle.memory.specs.Map.{elements_at, roots_at, memory_size, region, net_in};
 ghost use Rattle.netlist.specs.Elements.{output_of, after, after_all};
@@ -8,16 +8,20 @@ ghost use Rattle.lean.specs.Table.{entry, Blank, start_root, started, Partly, Ou
 use memory::{ELEMENTS, NONE, POINT, ROOTS, TERMINALS};
 use netlist::Out;
 
+// The numbers of elements, wires and pins of the full netlist that stands in the working memory.
+#[derive(Clone, Copy, Debug, PartialEq, Eq)]
+pub struct Full {
+    pub elements: usize,
+    pub wires: usize,
+    pub pins: usize,
+}
+
 // Every entry of the table is 0.
 pub fn blank(work: &mut [u16])
     requires { memory_size ≤ length work.old }
     ensures { Blank work.old work.new }
 {
-    let mut i: usize = 0;
-    while i < TERMINALS {
-        work[ROOTS + i] = 0;
-        i = i + 1;
-    }
+    work[ROOTS..ROOTS + TERMINALS].fill(0);
 }
 
 // Of an element's output o: one that stays is its own root; any other is not settled yet.
@@ -45,43 +49,40 @@ fn start_one(work: &mut [u16], kind: u16, n: u16) -> u16
     o.0 + 1
 }
 
-// The table as it starts; the first terminal that no element takes.
+// The table as it starts; the first terminal that no element takes. pass::name has the same loop: one function for both would take a
+// closure that changes the memory, and its contract would be longer than the loop.
 pub fn start(work: &mut [u16], elements: usize) -> u16
     requires { (memory_size ≤ length work.old) × ((elements ≤ 5120) × (after_all (region work.old elements_at elements) 0 ≤ 8192)) }
     ensures { (result ≡ after_all (region work.old elements_at elements) 0)
         × (work.new ≡ started work.old (region work.old elements_at elements) 0) }
 {
     let mut n: u16 = 0;
-    let mut i: usize = 0;
-    while i < elements {
+    for i in 0..elements {
         let kind = work[ELEMENTS + i];
         n = start_one(work, kind, n);
-        i = i + 1;
     }
     n
 }
 
 // One step back from output x, which is not settled.
-fn back_of(work: &[u16], elements: usize, wires: usize, pins: usize, x: Out) -> Out
-    requires { Partly work.now elements wires pins × (Output work.now elements wires pins x.0 × (entry work.now x.0 ≡ 65535)) }
+fn back_of(work: &[u16], full: Full, x: Out) -> Out
+    requires { Partly work.now full.elements full.wires full.pins × (Output work.now full.elements full.wires full.pins x.0 × (entry work.now x.0 ≡ 65535)) }
     ensures { result.0 ≡ get_or work.now (x.0 - 1) 0 }
 {
     Out(work[x.0 as usize - 1])
 }
 
 // At most so many steps back from an output, to one that is settled or to the start again.
-fn walk(work: &[u16], elements: usize, wires: usize, pins: usize, mark: Out, steps: usize) -> Out
-    requires { Partly work.now elements wires pins × (Output work.now elements wires pins mark.0 × (1 ≤ steps)) }
-    ensures { WalkedBack work.now elements wires pins mark.0 steps result.0 }
+fn walk(work: &[u16], full: Full, mark: Out, steps: usize) -> Out
+    requires { Partly work.now full.elements full.wires full.pins × (Output work.now full.elements full.wires full.pins mark.0 × (1 ≤ steps)) }
+    ensures { WalkedBack work.now full.elements full.wires full.pins mark.0 steps result.0 }
 {
     let mut x = mark;
-    let mut left = steps;
-    while left > 0 {
+    for _ in 0..steps {
         if work[ROOTS + x.0 as usize] != NONE {
             return x;
         }
-        x = back_of(work, elements, wires, pins, x);
-        left = left - 1;
+        x = back_of(work, full, x);
         if x.0 == mark.0 {
             return x;
         }
@@ -90,14 +91,14 @@ fn walk(work: &[u16], elements: usize, wires: usize, pins: usize, mark: Out, ste
 }
 
 // Steps back from output o, to one that is settled or comes round: Brent's way, with a mark that moves up after 1, 2, 4, 8, .. steps.
-fn meet(work: &[u16], elements: usize, wires: usize, pins: usize, o: Out) -> Out
-    requires { Partly work.now elements wires pins × Output work.now elements wires pins o.0 }
-    ensures { Met work.now elements wires pins o.0 result.0 }
+fn meet(work: &[u16], full: Full, o: Out) -> Out
+    requires { Partly work.now full.elements full.wires full.pins × Output work.now full.elements full.wires full.pins o.0 }
+    ensures { Met work.now full.elements full.wires full.pins o.0 result.0 }
 {
     let mut mark = o;
     let mut span: usize = 1;
     while span <= TERMINALS {
-        let x = walk(work, elements, wires, pins, mark, span);
+        let x = walk(work, full, mark, span);
         if work[ROOTS + x.0 as usize] != NONE {
             return x;
         }
@@ -111,21 +112,19 @@ fn meet(work: &[u16], elements: usize, wires: usize, pins: usize, o: Out) -> Out
 }
 
 // The root of output o, which is settled or comes round: the lowest, once round.
-fn round(work: &[u16], elements: usize, wires: usize, pins: usize, o: Out) -> Out
-    requires { Partly work.now elements wires pins × (Output work.now elements wires pins o.0
-        × (entry work.now o.0 ≡ 65535 → Comes (net_in work.now elements wires pins) o.0)) }
-    ensures { result.0 ≡ root (net_in work.now elements wires pins) o.0 }
+fn round(work: &[u16], full: Full, o: Out) -> Out
+    requires { Partly work.now full.elements full.wires full.pins × (Output work.now full.elements full.wires full.pins o.0
+        × (entry work.now o.0 ≡ 65535 → Comes (net_in work.now full.elements full.wires full.pins) o.0)) }
+    ensures { result.0 ≡ root (net_in work.now full.elements full.wires full.pins) o.0 }
 {
     let mut x = o;
     let mut low = o;
-    let mut left = TERMINALS;
-    while left > 0 {
+    for _ in 0..TERMINALS {
         let r = work[ROOTS + x.0 as usize];
         if r != NONE {
             return Out(r);
         }
-        x = back_of(work, elements, wires, pins, x);
-        left = left - 1;
+        x = back_of(work, full, x);
         if x.0 == o.0 {
             return low;
         }
@@ -137,58 +136,55 @@ fn round(work: &[u16], elements: usize, wires: usize, pins: usize, o: Out) -> Ou
 }
 
 // From o back, each output that is not settled gets o's root r.
-fn settle(work: &mut [u16], elements: usize, wires: usize, pins: usize, o: Out, r: Out)
-    requires { Partly work.old elements wires pins × (Output work.old elements wires pins o.0
-        × (r.0 ≡ root (net_in work.old elements wires pins) o.0)) }
-    ensures { Settled work.old work.new elements wires pins o.0 }
+fn settle(work: &mut [u16], full: Full, o: Out, r: Out)
+    requires { Partly work.old full.elements full.wires full.pins × (Output work.old full.elements full.wires full.pins o.0
+        × (r.0 ≡ root (net_in work.old full.elements full.wires full.pins) o.0)) }
+    ensures { Settled work.old work.new full.elements full.wires full.pins o.0 }
 {
     let mut x = o;
-    let mut left = TERMINALS;
-    while left > 0 {
+    for _ in 0..TERMINALS {
         if work[ROOTS + x.0 as usize] != NONE {
             return;
         }
-        let next = back_of(work, elements, wires, pins, x);
+        let next = back_of(work, full, x);
         work[ROOTS + x.0 as usize] = r.0;
         x = next;
-        left = left - 1;
     }
 }
 
 // The root of output o, which is not settled, where one step back tells it: o itself where it drives itself, else what the table has of its
-// driver; NONE where neither does.
-fn near(work: &[u16], elements: usize, wires: usize, pins: usize, o: Out) -> u16
-    requires { Partly work.now elements wires pins × (Output work.now elements wires pins o.0 × (entry work.now o.0 ≡ 65535)) }
-    ensures { (result ≡ 65535 → ⊥) → result ≡ root (net_in work.now elements wires pins) o.0 }
+// driver.
+fn near(work: &[u16], full: Full, o: Out) -> Option<Out>
+    requires { Partly work.now full.elements full.wires full.pins × (Output work.now full.elements full.wires full.pins o.0 × (entry work.now o.0 ≡ 65535)) }
+    ensures { IfSome result (λ r. r.0 ≡ root (net_in work.now full.elements full.wires full.pins) o.0) }
 {
-    let d = back_of(work, elements, wires, pins, o);
+    let d = back_of(work, full, o);
     if d.0 == o.0 {
-        return o.0;
+        return Some(o);
     }
-    work[ROOTS + d.0 as usize]
+    let r = work[ROOTS + d.0 as usize];
+    if r == NONE { None } else { Some(Out(r)) }
 }
 
 // Output o, which is not settled, is: by what it comes to.
-fn root_far(work: &mut [u16], elements: usize, wires: usize, pins: usize, o: Out)
-    requires { Partly work.old elements wires pins × Output work.old elements wires pins o.0 }
-    ensures { Settled work.old work.new elements wires pins o.0 }
+fn root_far(work: &mut [u16], full: Full, o: Out)
+    requires { Partly work.old full.elements full.wires full.pins × Output work.old full.elements full.wires full.pins o.0 }
+    ensures { Settled work.old work.new full.elements full.wires full.pins o.0 }
 {
-    let x = meet(work, elements, wires, pins, o);
-    let r = round(work, elements, wires, pins, x);
-    settle(work, elements, wires, pins, o, r);
+    let x = meet(work, full, o);
+    let r = round(work, full, x);
+    settle(work, full, o, r);
 }
 
 // Terminal n is settled, if it is an output. Most are by one step back.
-pub fn root_one(work: &mut [u16], elements: usize, wires: usize, pins: usize, n: u16)
-    requires { Partly work.old elements wires pins × (n < 8192) }
-    ensures { Settled work.old work.new elements wires pins n }
+pub fn root_one(work: &mut [u16], full: Full, n: u16)
+    requires { Partly work.old full.elements full.wires full.pins × (n < 8192) }
+    ensures { Settled work.old work.new full.elements full.wires full.pins n }
 {
     if work[ROOTS + n as usize] == NONE {
-        let r = near(work, elements, wires, pins, Out(n));
-        if r == NONE {
-            root_far(work, elements, wires, pins, Out(n));
-        } else {
-            work[ROOTS + n as usize] = r;
+        match near(work, full, Out(n)) {
+            Some(r) => work[ROOTS + n as usize] = r.0,
+            None => root_far(work, full, Out(n)),
         }
     }
 }

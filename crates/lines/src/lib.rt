@@ -15,12 +15,9 @@ pub fn put_word(text: &mut [u8], at: usize, word: &[u8]) -> usize
     requires { at + length word.now ≤ length text.old }
     ensures { WroteText text.old at word.now text.new result }
 {
-    let mut i: usize = 0;
-    while i < word.len() {
-        text[at + i] = word[i];
-        i = i + 1;
-    }
-    at + i
+    let end = at + word.len();
+    text[at..end].copy_from_slice(word);
+    end
 }
 
 // A number in decimal.
@@ -52,10 +49,8 @@ pub fn put_fields(text: &mut [u8], from: usize, count: usize, first: usize) -> u
     ensures { WroteText text.old from (figures count first) text.new result }
 {
     let mut at = from;
-    let mut i: usize = 0;
-    while i < count {
+    for i in 0..count {
         at = put_field(text, at, first + i);
-        i = i + 1;
     }
     at
 }
@@ -146,7 +141,7 @@ fn size_of(kind: u8) -> usize
     }
 }
 
-// The length of the record that stands at an offset of a netlist; 0 where none stands whole.
+// The length of the record that stands at an offset of a netlist; 0 where none stands whole, and no `Option`: `lines_from` adds up the lengths.
 pub fn size_at(net: &[u8], at: usize) -> usize
     ensures { result ≡ size_at net.now at }
 {
@@ -162,7 +157,7 @@ fn number_at(net: &[u8], at: usize) -> usize
     requires { at + 2 ≤ length net.now }
     ensures { (result ≡ two_at net.now at) × (result < 65536) }
 {
-    net[at] as usize + 256 * net[at + 1] as usize
+    u16::from_le_bytes([net[at], net[at + 1]]) as usize
 }
 
 // The line of the record that stands at an offset of a netlist, written from the start of the text; nothing where none stands whole.

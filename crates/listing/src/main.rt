@@ -3,8 +3,8 @@
 
 ghost use Rattle.std.specs.Prelude.{◌+◌, ◌≤◌, length};
 
+use answers::Refusal;
 use translation::Wish;
-use translator::Answer;
 
 // A text of which some bytes are used, with room for one more line: it is printed where the room is short. The bytes then used.
 fn room_for_a_line(text: &[u8], used: usize) -> usize
@@ -43,9 +43,9 @@ fn netlist(heading: &[u8], net: &[u8]) {
     records(net, &mut text);
 }
 
-fn refused(number: u8, place: usize) {
+fn refused(why: Refusal) {
     let mut text = io::buffer();
-    let n = lines::refused_line(&mut text, 0, number, place);
+    let n = lines::refused_line(&mut text, 0, why.reason.number(), why.place);
     io::write_all(1, &text[..n]);
 }
 
@@ -61,12 +61,12 @@ fn translated(sheet: &[u8], out: &mut [u8], work: &mut [u16], lean: bool, headin
             card: false,
         },
     ) {
-        Answer::Written(n) => {
+        Ok(n) => {
             netlist(heading, &out[..n]);
             true
         }
-        Answer::Refused(r) => {
-            refused(r.number, r.place);
+        Err(why) => {
+            refused(why);
             false
         }
     }

@@ -7,6 +7,8 @@ use native.Mathlib.Omega.{arith}
 use lib.Dec.{leb}
 use lib.ListN.{length, get_or}
 use borrow.Author.Tests.{eq-eqb, ne_eqb}
+use Rattle.std.proofs.Common.{Result, Ok, Err}
+use Rattle.answers.specs.declared.Refusal.{Refusal}
 use Rattle.calculus.specs.Answer.{Answer, ◌>>=◌}
 use Rattle.calculus.specs.Types.{TyRec, rec02, rec03, rec04}
 use Rattle.calculus.specs.Terms.{Edition, first, second, is_second}
@@ -16,8 +18,6 @@ use Rattle.making_memory.specs.Map.{second_at_lem}
 use Rattle.made_types.specs.Held.{kind_in, HoldsState, TypesOnly}
 use Rattle.made_types.specs.Listing.{rec_of_kind, Listable, FoundIn, ListedSays}
 use Rattle.made_types.specs.declared.Record.{Record}
-use Rattle.made_types.specs.declared.FoundType as code
-use Rattle.made_types.specs.declared.FoundType.TheVariants as found
 use Rattle.made_types.proofs.Sorts.{shares_in}
 use Rattle.made_types.proofs.ListLaws.{types_same, types_on}
 use Rattle.made_nodes.specs.Held.{Workable}
@@ -42,7 +42,7 @@ arrow_below : (b : Bool) (n t to : ℕ) → t < n → to < n → Below n (cond b
 arrow_below true n t to h l = (h, l)
 arrow_below false n t to h l = (h, l)
 
-pub arrow_says : (w : List ℕ) (t to place k : ℕ) (x : code.FoundType) (w' : List ℕ) → k ≡ cond (leb (kind_in w t) 2) 3 4 → ListedSays w (record { kind = k; left = t; right = to }) place x w' → ArrowSays w t to place x w'
+pub arrow_says : (w : List ℕ) (t to place k : ℕ) (x : Result ℕ Refusal) (w' : List ℕ) → k ≡ cond (leb (kind_in w t) 2) 3 4 → ListedSays w (record { kind = k; left = t; right = to }) place x w' → ArrowSays w t to place x w'
 arrow_says w t to place k x w' e L = record {
   only = L.only;
   small = L.small;
@@ -62,7 +62,7 @@ pub half_small : (b : Bool) (t r : ℕ) → r ≡ cond b t 0 → t < 256 → r <
 half_small b t r e h = rw e (half_below b 256 t h)
 
 pub product_says :
-    (w : List ℕ) (a b place l r : ℕ) (x : code.FoundType) (w' : List ℕ) → l ≡ cond (leb (kind_in w a) 2) a 0 → r ≡ cond (leb (kind_in w b) 2) b 0
+    (w : List ℕ) (a b place l r : ℕ) (x : Result ℕ Refusal) (w' : List ℕ) → l ≡ cond (leb (kind_in w a) 2) a 0 → r ≡ cond (leb (kind_in w b) 2) b 0
     → ListedSays w (record { kind = 2; left = l; right = r }) place x w' → ProductSays w a b place x w'
 product_says w a b place l r x w' el er L = record {
   only = L.only;
@@ -83,29 +83,29 @@ some_in w σ H = H.types.some
 
 -- the first of two types is refused, or found and the second asked for
 pub gate_refused :
-    (w : List ℕ) (place : ℕ) (x : code.FoundType) (n p : ℕ) (w' : List ℕ) → x ≡ found.Refused n p → ListedSays w (record { kind = 3; left = 0; right = 0 }) place x w'
-    → GateSays first w place x w'
-gate_refused w place x n p w' e L = rw e (record {
+    (w : List ℕ) (place : ℕ) (x : Result ℕ Refusal) (why : Refusal) (w' : List ℕ) → x ≡ Err why → ListedSays w (record { kind = 3; left = 0; right = 0 }) place x w'
+    → GateSays first w place (Err why) w'
+gate_refused w place x why w' e L = record {
   only = L.only;
   small = tt;
   says = λ σ H.
       let z = some_in w σ H in
-      on-no-type w' n p (λ (a : Answer Found). FoundIn w' (found.Refused n p) (a >>= λ y. listed y.state (rec03 0 y.type) place)) (listed σ (rec03 0 0) place) (rw e at (L.says σ H (z, z))) refl;
-})
+      on-no-type w' why (λ (a : Answer Found). FoundIn w' (Err why) (a >>= λ y. listed y.state (rec03 0 y.type) place)) (listed σ (rec03 0 0) place) (rw e at (L.says σ H (z, z))) refl;
+}
 
 pub paired_refused :
-    (w : List ℕ) (place : ℕ) (x : code.FoundType) (n p : ℕ) (w' : List ℕ) → x ≡ found.Refused n p → ListedSays w (record { kind = 2; left = 0; right = 0 }) place x w'
-    → GateSays second w place x w'
-paired_refused w place x n p w' e L = rw e (record {
+    (w : List ℕ) (place : ℕ) (x : Result ℕ Refusal) (why : Refusal) (w' : List ℕ) → x ≡ Err why → ListedSays w (record { kind = 2; left = 0; right = 0 }) place x w'
+    → GateSays second w place (Err why) w'
+paired_refused w place x why w' e L = record {
   only = L.only;
   small = tt;
   says = λ σ H.
       let z = some_in w σ H in
-      on-no-type w' n p (λ (a : Answer Found). FoundIn w' (found.Refused n p) (a >>= λ y. listed y.state (rec03 y.type 0) place)) (listed σ (rec02 0 0) place) (rw e at (L.says σ H (z, z))) refl;
-})
+      on-no-type w' why (λ (a : Answer Found). FoundIn w' (Err why) (a >>= λ y. listed y.state (rec03 y.type 0) place)) (listed σ (rec02 0 0) place) (rw e at (L.says σ H (z, z))) refl;
+}
 
 pub gate-found :
-    (w : List ℕ) (place k : ℕ) (x : code.FoundType) (v : List ℕ) (r : code.FoundType) (w' : List ℕ) → x ≡ found.At k → ListedSays w (record { kind = 3; left = 0; right = 0 }) place x v
+    (w : List ℕ) (place k : ℕ) (x : Result ℕ Refusal) (v : List ℕ) (r : Result ℕ Refusal) (w' : List ℕ) → x ≡ Ok k → ListedSays w (record { kind = 3; left = 0; right = 0 }) place x v
     → ListedSays v (record { kind = 3; left = 0; right = k }) place r w' → GateSays first w place r w'
 gate-found w place k x v r w' e L M = record {
   only = types_on w v w' L.only M.only;
@@ -117,7 +117,7 @@ gate-found w place k x v r w' e L M = record {
 }
 
 pub paired-found :
-    (w : List ℕ) (place k : ℕ) (x : code.FoundType) (v : List ℕ) (r : code.FoundType) (w' : List ℕ) → x ≡ found.At k → ListedSays w (record { kind = 2; left = 0; right = 0 }) place x v
+    (w : List ℕ) (place k : ℕ) (x : Result ℕ Refusal) (v : List ℕ) (r : Result ℕ Refusal) (w' : List ℕ) → x ≡ Ok k → ListedSays w (record { kind = 2; left = 0; right = 0 }) place x v
     → ListedSays v (record { kind = 3; left = k; right = 0 }) place r w' → GateSays second w place r w'
 paired-found w place k x v r w' e L M = record {
   only = types_on w v w' L.only M.only;
@@ -128,14 +128,14 @@ paired-found w place k x v r w' e L M = record {
       (λ y f l K. rw (← f) (M.says y.state K (l, some_in v y.state K)));
 }
 
-pub small_of : (w : List ℕ) (r : Record) (place k : ℕ) (x : code.FoundType) (w' : List ℕ) → x ≡ found.At k → ListedSays w r place x w' → k < 256
+pub small_of : (w : List ℕ) (r : Record) (place k : ℕ) (x : Result ℕ Refusal) (w' : List ℕ) → x ≡ Ok k → ListedSays w r place x w' → k < 256
 small_of w r place k x w' e L = rw e at L.small
 
 -- by the inputs, and then by the edition
-pub part_none : (w : List ℕ) (inputs place : ℕ) → inputs ≡ 0 → PartTypeSays w inputs place (found.At 0) w
+pub part_none : (w : List ℕ) (inputs place : ℕ) → inputs ≡ 0 → PartTypeSays w inputs place (Ok 0) w
 part_none w inputs place e = rw e (record { only = types_same w; small = omega arith; says = λ E σ e H. (refl, (some_in w σ H, H)) })
 
-pub part-unary : (w : List ℕ) (inputs place : ℕ) (x : code.FoundType) (w' : List ℕ) → inputs ≡ 1 → ListedSays w (record { kind = 3; left = 0; right = 0 }) place x w' → PartTypeSays w inputs place x w'
+pub part-unary : (w : List ℕ) (inputs place : ℕ) (x : Result ℕ Refusal) (w' : List ℕ) → inputs ≡ 1 → ListedSays w (record { kind = 3; left = 0; right = 0 }) place x w' → PartTypeSays w inputs place x w'
 part-unary w inputs place x w' e L = rw e (record { only = L.only; small = L.small; says = λ E σ d H. let z = some_in w σ H in L.says σ H (z, z) })
 
 more-inputs : (E : Edition) (inputs place : ℕ) (σ : State) → (inputs ≡ 0 → ⊥) → (inputs ≡ 1 → ⊥) → part_type E 2 σ place ≡ part_type E inputs σ place
@@ -158,7 +158,7 @@ edition_second first e = absurd (off e)
     off : false ≡ true → ⊥
     off p = subst (λ (b : Bool). cond b ⊥ (Unit {0})) p tt
 
-module _ (w : List ℕ) (inputs place : ℕ) (x : code.FoundType) (w' : List ℕ) (a : inputs ≡ 0 → ⊥) (b : inputs ≡ 1 → ⊥) where
+module _ (w : List ℕ) (inputs place : ℕ) (x : Result ℕ Refusal) (w' : List ℕ) (a : inputs ≡ 0 → ⊥) (b : inputs ≡ 1 → ⊥) where
   gate-is : (E : Edition) → GateSays E w place x w' → ((F : Edition) → EditionIn w F → F ≡ E) → PartTypeSays w inputs place x w'
   gate-is E G only = record {
     only = G.only;

@@ -1,13 +1,13 @@
 -- A term that was made, as the code hands it on: the number of its root, its type, its depth. Assumes nothing.
-use Rattle.std.specs.Prelude.{ℕ, ◌*◌, ◌≤◌, ◌<◌, ◌≡◌, List, length, get_or}
-use Rattle.calculus.specs.Answer.{Answer, good, refused, numbered}
+use Rattle.std.specs.Prelude.{ℕ, ◌*◌, ◌≤◌, ◌<◌, ◌≡◌, List, Result, Ok, Err, length, get_or}
+use Rattle.answers.specs.declared.Refusal.{Refusal}
+use Rattle.answers.specs.Refusals.{said_why}
+use Rattle.calculus.specs.Answer.{Answer, good, refused}
 use Rattle.notation_calculus.specs.Making.{Made}
 use Rattle.making_memory.specs.Map.{types_at, type_count_at, node_count_at, making_size}
 use Rattle.made_types.specs.Held.{HoldsState}
 use Rattle.made_nodes.specs.Nodes.{TermIn}
 use Rattle.made_nodes.specs.declared.Sub.{Sub}
-use Rattle.made_nodes.specs.declared.MadeTerm as code
-use Rattle.made_nodes.specs.declared.MadeTerm.TheVariants as made
 
 -- the memory holds the term, its places, its type and its depth
 pub record TermHeld (w : List ℕ) (s : Sub) (m : Made) : Type 0 where
@@ -19,16 +19,16 @@ pub record TermHeld (w : List ℕ) (s : Sub) (m : Made) : Type 0 where
   pub deep : s.deep ≡ m.deep
 
 -- the answer is the definition's, and the memory holds what it made
-abbrev pub MadeIn : List ℕ → code.MadeTerm → Answer Made → Type 0
-MadeIn w (made.At s) (good m) = HoldsState w m.state × TermHeld w s m
-MadeIn w (made.At s) (refused why) = ⊥
-MadeIn w (made.Refused number place) (good m) = ⊥
-MadeIn w (made.Refused number place) (refused why) = why ≡ numbered number place
+abbrev pub MadeIn : List ℕ → Result Sub Refusal → Answer Made → Type 0
+MadeIn w (Ok s) (good m) = HoldsState w m.state × TermHeld w s m
+MadeIn w (Ok s) (refused why) = ⊥
+MadeIn w (Err e) (good m) = ⊥
+MadeIn w (Err e) (refused why) = why ≡ said_why e
 
 -- the type of an answer is a number that can stand in the memory
-abbrev pub SmallMade : code.MadeTerm → Type 0
-SmallMade (made.At s) = s.ty < 256
-SmallMade (made.Refused number place) = Unit {0}
+abbrev pub SmallMade : Result Sub Refusal → Type 0
+SmallMade (Ok s) = s.ty < 256
+SmallMade (Err e) = Unit {0}
 
 -- nodes and types are written behind those that there were, and nothing else
 pub record MadeOnly (w w' : List ℕ) : Type 0 where

@@ -4,12 +4,13 @@ ghost use Rattle.made_types.specs.Listing.{InTypes};
 ghost use Rattle.made_nodes.specs.Held.{Workable};
 ghost use Rattle.made_nodes.specs.Forms.{VariableSays, GateSays, PartTypeSays, PartSays};
 
-use crate::{MadeTerm, Node};
-use made_types::{FoundType, Record};
+use crate::{Node, Sub};
+use answers::Refusal;
+use made_types::Record;
 use making_memory::SECOND;
 
 // A variable of a type, by its number.
-pub fn variable(work: &mut [u16], number: u16, ty: u16, place: u16) -> MadeTerm
+pub fn variable(work: &mut [u16], number: u16, ty: u16, place: u16) -> Result<Sub, Refusal>
     requires { InTypes work.old ty }
     ensures { VariableSays work.old number ty place result work.new }
 {
@@ -24,8 +25,8 @@ pub fn variable(work: &mut [u16], number: u16, ty: u16, place: u16) -> MadeTerm
     crate::add(work, n, ty, 0)
 }
 
-// The type of a part of two inputs in the first edition.
-fn gate_type(work: &mut [u16], place: u16) -> FoundType
+// The type of a part of two inputs in the first edition. This and the next stay two functions: one for both would choose twice by the edition.
+fn gate_type(work: &mut [u16], place: u16) -> Result<u16, Refusal>
     requires { Workable work.old }
     ensures { GateSays first work.old place result work.new }
 {
@@ -34,10 +35,7 @@ fn gate_type(work: &mut [u16], place: u16) -> FoundType
         left: 0,
         right: 0,
     };
-    let found = made_types::listed(work, unary, place);
-    let FoundType::At(t) = found else {
-        return found;
-    };
+    let t = made_types::listed(work, unary, place)?;
     let gate = Record {
         kind: 3,
         left: 0,
@@ -47,7 +45,7 @@ fn gate_type(work: &mut [u16], place: u16) -> FoundType
 }
 
 // .. in the second edition, where it takes a pair.
-fn paired_type(work: &mut [u16], place: u16) -> FoundType
+fn paired_type(work: &mut [u16], place: u16) -> Result<u16, Refusal>
     requires { Workable work.old }
     ensures { GateSays second work.old place result work.new }
 {
@@ -56,10 +54,7 @@ fn paired_type(work: &mut [u16], place: u16) -> FoundType
         left: 0,
         right: 0,
     };
-    let found = made_types::listed(work, pair, place);
-    let FoundType::At(t) = found else {
-        return found;
-    };
+    let t = made_types::listed(work, pair, place)?;
     let gate = Record {
         kind: 3,
         left: t,
@@ -68,12 +63,12 @@ fn paired_type(work: &mut [u16], place: u16) -> FoundType
     made_types::listed(work, gate, place)
 }
 
-fn part_type(work: &mut [u16], inputs: u8, place: u16) -> FoundType
+fn part_type(work: &mut [u16], inputs: u8, place: u16) -> Result<u16, Refusal>
     requires { Workable work.old }
     ensures { PartTypeSays work.old inputs place result work.new }
 {
     if inputs == 0 {
-        return FoundType::At(0);
+        return Ok(0);
     }
     if inputs == 1 {
         let unary = Record {
@@ -90,23 +85,18 @@ fn part_type(work: &mut [u16], inputs: u8, place: u16) -> FoundType
 }
 
 // A part, by its number.
-pub fn part(work: &mut [u16], number: u16, place: u16) -> MadeTerm
+pub fn part(work: &mut [u16], number: u16, place: u16) -> Result<Sub, Refusal>
     requires { Workable work.old }
     ensures { PartSays work.old number place result work.new }
 {
     let p = parts::part_of(number);
-    let found = part_type(work, p.inputs, place);
-    match found {
-        FoundType::Refused(why, at) => MadeTerm::Refused(why, at),
-        FoundType::At(t) => {
-            let n = Node {
-                kind: 0x1A,
-                body: number,
-                left: t,
-                right: 0,
-                place,
-            };
-            crate::add(work, n, t, 0)
-        }
-    }
+    let t = part_type(work, p.inputs, place)?;
+    let n = Node {
+        kind: 0x1A,
+        body: number,
+        left: t,
+        right: 0,
+        place,
+    };
+    crate::add(work, n, t, 0)
 }

@@ -4,7 +4,6 @@
 
 ghost use Rattle.std.specs.Prelude.{◌≡◌, cond, ◌∷◌, [], ◌+◌, ◌*◌, ◌≤◌, ◌<◌, leb, length, set};
 ghost use Rattle.std.proofs.lemmas.List.Edits.{sets};
-ghost use Rattle.notation_calculus.specs.Making.{larger};
 ghost use Rattle.making_memory.specs.Map.{nodes_at, node_count_at, making_size};
 ghost use Rattle.made_types.specs.Held.{kind_in};
 ghost use Rattle.made_types.specs.Listing.{InTypes};
@@ -14,24 +13,19 @@ pub mod binders;
 pub mod leaves;
 pub mod pairs;
 
+use answers::{Reason, Refusal};
 use making_memory::{MOST_DEEP, MOST_NODES, NODE_COUNT, NODES};
 
 // A term that was made: its last node, which is its root, its type, and its depth.
-#[derive(Clone, Copy)]
+#[derive(Clone, Copy, Debug, PartialEq, Eq)]
 pub struct Sub {
     pub node: u16,
     pub ty: u16,
     pub deep: u16,
 }
 
-#[derive(Clone, Copy)]
-pub enum MadeTerm {
-    At(Sub),
-    Refused(u8, u16),
-}
-
 // A node to be: its kind, its first body byte, its subterms, and the offset of its word.
-#[derive(Clone, Copy)]
+#[derive(Clone, Copy, Debug, PartialEq, Eq)]
 pub struct Node {
     pub kind: u16,
     pub body: u16,
@@ -65,36 +59,34 @@ fn store(work: &mut [u16], k: u16, n: Node)
 }
 
 // A new node of a type, above terms of some depth: 34 at its word.
-pub fn add(work: &mut [u16], n: Node, ty: u16, below: u16) -> MadeTerm
+pub fn add(work: &mut [u16], n: Node, ty: u16, below: u16) -> Result<Sub, Refusal>
     requires { making_size ≤ length work.old }
     ensures { NodeSays work.old n ty below result work.new }
 {
     let k = work[NODE_COUNT];
     if MOST_NODES <= k {
-        return MadeTerm::Refused(34, n.place);
+        return Err(Reason::TextLimit.at(n.place as usize));
     }
     if MOST_DEEP <= below {
-        return MadeTerm::Refused(34, n.place);
+        return Err(Reason::TextLimit.at(n.place as usize));
     }
     store(work, k, n);
-    MadeTerm::At(Sub {
+    Ok(Sub {
         node: k,
         ty,
         deep: below + 1,
     })
 }
 
-fn larger(a: u16, b: u16) -> u16
-    ensures { result ≡ larger a b }
-{
-    if a <= b {
-        return b;
-    }
-    a
-}
-
 // A node over one term.
-pub fn under(work: &mut [u16], kind: u16, body: u16, place: u16, ty: u16, e: Sub) -> MadeTerm
+pub fn under(
+    work: &mut [u16],
+    kind: u16,
+    body: u16,
+    place: u16,
+    ty: u16,
+    e: Sub,
+) -> Result<Sub, Refusal>
     requires { making_size ≤ length work.old }
     ensures { UnderSays work.old kind body place ty e result work.new }
 {
@@ -109,7 +101,15 @@ pub fn under(work: &mut [u16], kind: u16, body: u16, place: u16, ty: u16, e: Sub
 }
 
 // A node over two terms.
-pub fn over(work: &mut [u16], kind: u16, body: u16, place: u16, ty: u16, a: Sub, b: Sub) -> MadeTerm
+pub fn over(
+    work: &mut [u16],
+    kind: u16,
+    body: u16,
+    place: u16,
+    ty: u16,
+    a: Sub,
+    b: Sub,
+) -> Result<Sub, Refusal>
     requires { making_size ≤ length work.old }
     ensures { OverSays work.old kind body place ty a b result work.new }
 {
@@ -120,6 +120,6 @@ pub fn over(work: &mut [u16], kind: u16, body: u16, place: u16, ty: u16, a: Sub,
         right: b.node,
         place,
     };
-    let below = larger(a.deep, b.deep);
+    let below = a.deep.max(b.deep);
     add(work, n, ty, below)
 }

@@ -3,11 +3,12 @@ ghost use Rattle.std.specs.Prelude.{◌<◌};
 ghost use Rattle.made_nodes.specs.Held.{Workable};
 ghost use Rattle.made_nodes.specs.Forms.{ProductSays, PairSays, AppliedSays};
 
-use crate::{MadeTerm, Sub};
-use made_types::{FoundType, Record};
+use crate::Sub;
+use answers::Refusal;
+use made_types::Record;
 
 // The product of two types. A half that is not sharable counts as the single bit, and the sheet is refused at this node.
-fn product(work: &mut [u16], a: u16, b: u16, place: u16) -> FoundType
+fn product(work: &mut [u16], a: u16, b: u16, place: u16) -> Result<u16, Refusal>
     requires { (Workable work.old) × ((a < 256) × (b < 256)) }
     ensures { ProductSays work.old a b place result work.new }
 {
@@ -21,19 +22,16 @@ fn product(work: &mut [u16], a: u16, b: u16, place: u16) -> FoundType
     made_types::listed(work, r, place)
 }
 
-pub fn pair(work: &mut [u16], place: u16, a: Sub, b: Sub) -> MadeTerm
+pub fn pair(work: &mut [u16], place: u16, a: Sub, b: Sub) -> Result<Sub, Refusal>
     requires { (Workable work.old) × ((a.ty < 256) × (b.ty < 256)) }
     ensures { PairSays work.old place a b result work.new }
 {
-    let found = product(work, a.ty, b.ty, place);
-    match found {
-        FoundType::Refused(why, at) => MadeTerm::Refused(why, at),
-        FoundType::At(t) => crate::over(work, 0x17, t, place, t, a, b),
-    }
+    let t = product(work, a.ty, b.ty, place)?;
+    crate::over(work, 0x17, t, place, t, a, b)
 }
 
 // By the function's type, or else by the argument's sort.
-pub fn applied(work: &mut [u16], place: u16, f: Sub, a: Sub) -> MadeTerm
+pub fn applied(work: &mut [u16], place: u16, f: Sub, a: Sub) -> Result<Sub, Refusal>
     requires { (Workable work.old) × ((f.ty < 256) × (a.ty < 256)) }
     ensures { AppliedSays work.old place f a result work.new }
 {

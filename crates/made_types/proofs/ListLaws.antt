@@ -6,6 +6,9 @@ use mathlib.Core.List.{List, [], ◌∷◌, ◌++◌}
 use native.Mathlib.Omega.{arith}
 use lib.ListN.{length, get_or}
 use borrow.Author.Tests.{le-leb, lt-leb, lt-ltb, le-ltb}
+use Rattle.std.proofs.Common.{Ok, Err}
+use Rattle.answers.specs.declared.Reason.{Reason}
+use Rattle.answers.specs.Refusals.{refusal_at}
 use Rattle.calculus.specs.Answer.{good, refuse}
 use Rattle.calculus.specs.Types.{size, TyRec, Table, ty_of, tys_from, tree}
 use Rattle.calculus.specs.Read.{formed, repeated}
@@ -17,7 +20,6 @@ use Rattle.making_memory.specs.Map.{type_count_at, node_count_at, put_count_at}
 use Rattle.made_types.specs.Held.{kind_number, left_number, right_number, bits_in_lem, HoldsTypes, HoldsState, TypesOnly}
 use Rattle.made_types.specs.Listing.{rec_of_kind, record_of_lem, formed_in, Searched, Listable, ListedSays}
 use Rattle.made_types.specs.declared.Record.{Record}
-use Rattle.made_types.specs.declared.FoundType.TheVariants as found
 use Rattle.made_types.proofs.Sorts.{by_form, ready_of, formed_in_lem}
 use Rattle.made_types.proofs.Finding.{found_old, found_new}
 use Rattle.made_types.proofs.Growth.{stored, stored_only, stored-above, holds-stored}
@@ -83,7 +85,7 @@ types_on u v w a b =
     }
 
 module _ (w : List ℕ) (r : Record) (place : ℕ) (k : ℕ) (L : Listable w r) (S : Searched w r k) where
-  pub says_old : k < get_or w type_count_at 0 → ListedSays w r place (found.At k) w
+  pub says_old : k < get_or w type_count_at 0 → ListedSays w r place (Ok k) w
   says_old h = record {
     only = types_same w;
     small = let c = L.count in omega arith;
@@ -103,14 +105,14 @@ module _ (w : List ℕ) (r : Record) (place : ℕ) (k : ℕ) (L : Listable w r) 
   formed-one : (σ : State) → HoldsState w σ → Below (length σ.table) (record_of_lem r) → formed_in w r ≡ formed σ.table (record_of_lem r)
   formed-one σ H B = formed_in_lem w σ.table H.types r.kind r.left r.right L.form L.known B
 
-  pub says_bad : get_or w type_count_at 0 ≤ k → formed_in w r ≡ false → ListedSays w r place (found.Refused 35 place) w
+  pub says_bad : get_or w type_count_at 0 ≤ k → formed_in w r ≡ false → ListedSays w r place (Err (refusal_at Reason.WrongSide place)) w
   says_bad h f = record {
     only = types_same w;
     small = tt;
     says = λ σ H B. rw (is-bad σ (record_of_lem r) place (new-one h σ H B).1 (sym (formed-one σ H B) ∙ f)) refl;
   }
 
-  pub says_big : get_or w type_count_at 0 ≤ k → formed_in w r ≡ true → 128 < bits_in_lem w r.left + bits_in_lem w r.right → ListedSays w r place (found.Refused 34 place) w
+  pub says_big : get_or w type_count_at 0 ≤ k → formed_in w r ≡ true → 128 < bits_in_lem w r.left + bits_in_lem w r.right → ListedSays w r place (Err (refusal_at Reason.TextLimit place)) w
   says_big h f s = record {
     only = types_same w;
     small = tt;
@@ -118,7 +120,7 @@ module _ (w : List ℕ) (r : Record) (place : ℕ) (k : ℕ) (L : Listable w r) 
   }
 
   module _ (h : get_or w type_count_at 0 ≤ k) (f : formed_in w r ≡ true) (s : bits_in_lem w r.left + bits_in_lem w r.right ≤ 128) where
-    pub says-full : 256 ≤ k → ListedSays w r place (found.Refused 34 place) w
+    pub says-full : 256 ≤ k → ListedSays w r place (Err (refusal_at Reason.TextLimit place)) w
     says-full m = record {
       only = types_same w;
       small = tt;
@@ -138,7 +140,7 @@ module _ (w : List ℕ) (r : Record) (place : ℕ) (k : ℕ) (L : Listable w r) 
           puts = above put_count_at (omega arith) (λ z. omega arith) ∙ H.puts;
         }
 
-    pub says-new : k < 256 → ListedSays w r place (found.At k) (stored w k r.kind r.left r.right (bits_in_lem w r.left + bits_in_lem w r.right))
+    pub says-new : k < 256 → ListedSays w r place (Ok k) (stored w k r.kind r.left r.right (bits_in_lem w r.left + bits_in_lem w r.right))
     says-new m = record {
       only = stored_only w k r.kind r.left r.right (bits_in_lem w r.left + bits_in_lem w r.right) L.room m h;
       small = m;

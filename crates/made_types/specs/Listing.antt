@@ -1,14 +1,14 @@
 -- What the functions over the table of types answer. Assumes nothing.
-use Rattle.std.specs.Prelude.{ℕ, ◌≤◌, ◌<◌, ◌≡◌, Bool, true, false, not, ◌&&◌, cond, List, eqb, leb, length, get_or}
-use Rattle.calculus.specs.Answer.{Answer, good, refused, numbered}
+use Rattle.std.specs.Prelude.{ℕ, ◌≤◌, ◌<◌, ◌≡◌, Bool, true, false, not, ◌&&◌, cond, List, Result, Ok, Err, eqb, leb, length, get_or}
+use Rattle.calculus.specs.Answer.{Answer, good, refused}
 use Rattle.calculus.specs.Types.{TyRec, rec02, rec03, rec04}
+use Rattle.answers.specs.declared.Refusal.{Refusal}
+use Rattle.answers.specs.Refusals.{said_why}
 use Rattle.sheet_theorems.specs.Laid.{Below}
 use Rattle.notation_calculus.specs.Making.{State, Found, listed, more_bits}
 use Rattle.making_memory.specs.Map.{type_count_at, making_size}
 use Rattle.made_types.specs.Held.{kind_in, left_in_lem, right_in, HoldsState, TypesOnly}
 use Rattle.made_types.specs.declared.Record.{Record}
-use Rattle.made_types.specs.declared.FoundType as code
-use Rattle.made_types.specs.declared.FoundType.TheVariants as found
 
 -- a number of a type that can stand in the memory
 abbrev pub InTypes : List ℕ → ℕ → Type 0
@@ -45,25 +45,25 @@ pub record Listable (w : List ℕ) (r : Record) : Type 0 where
   pub right : r.right < 256
 
 -- the number of a type is answered, and the memory holds the table after it
-abbrev pub FoundIn : List ℕ → code.FoundType → Answer Found → Type 0
-FoundIn w (found.At t) (good x) = (t ≡ x.type) × ((t < length x.state.table) × HoldsState w x.state)
-FoundIn w (found.At t) (refused why) = ⊥
-FoundIn w (found.Refused number place) (good x) = ⊥
-FoundIn w (found.Refused number place) (refused why) = why ≡ numbered number place
+abbrev pub FoundIn : List ℕ → Result ℕ Refusal → Answer Found → Type 0
+FoundIn w (Ok t) (good x) = (t ≡ x.type) × ((t < length x.state.table) × HoldsState w x.state)
+FoundIn w (Ok t) (refused why) = ⊥
+FoundIn w (Err e) (good x) = ⊥
+FoundIn w (Err e) (refused why) = why ≡ said_why e
 
 -- .. a number that can stand in the memory, if any
-abbrev pub SmallType : code.FoundType → Type 0
-SmallType (found.At t) = t < 256
-SmallType (found.Refused number place) = Unit {0}
+abbrev pub SmallType : Result ℕ Refusal → Type 0
+SmallType (Ok t) = t < 256
+SmallType (Err e) = Unit {0}
 
 -- whatever state the memory held, the answer is that of the definition
-pub record ListedSays (w : List ℕ) (r : Record) (place : ℕ) (x : code.FoundType) (w' : List ℕ) : Type 0 where
+pub record ListedSays (w : List ℕ) (r : Record) (place : ℕ) (x : Result ℕ Refusal) (w' : List ℕ) : Type 0 where
   pub only : TypesOnly w w'
   pub small : SmallType x
   pub says : (σ : State) → HoldsState w σ → Below (length σ.table) (record_of_lem r) → FoundIn w' x (listed σ (record_of_lem r) place)
 
 -- .. of a bit and so many more left of it
-pub record RowSays (w : List ℕ) (more place : ℕ) (x : code.FoundType) (w' : List ℕ) : Type 0 where
+pub record RowSays (w : List ℕ) (more place : ℕ) (x : Result ℕ Refusal) (w' : List ℕ) : Type 0 where
   pub only : TypesOnly w w'
   pub small : SmallType x
   pub says : (σ : State) → HoldsState w σ → FoundIn w' x (more_bits place more (record { type = 0; state = σ }))

@@ -8,17 +8,11 @@ ghost use Rattle.made_types.specs.Held.{kind_in, left_in_lem, right_in, bits_in_
 ghost use Rattle.made_types.specs.Listing.{InTypes, Searched, same_in_lem, formed_in, Listable, ListedSays, RowSays};
 ghost use Rattle.made_types.specs.States.{Begun, Forgot};
 
+use answers::{Reason, Refusal};
 use making_memory::{MOST_TYPES, NODE_COUNT, PUT_COUNT, TYPE_COUNT, TYPES};
 
-// A type's number, or a refusal.
-#[derive(Clone, Copy)]
-pub enum FoundType {
-    At(u16),
-    Refused(u8, u16),
-}
-
 // A product, an arrow or a linear arrow: kinds 2 to 4, and the sides' numbers.
-#[derive(Clone, Copy)]
+#[derive(Clone, Copy, Debug, PartialEq, Eq)]
 pub struct Record {
     pub kind: u16,
     pub left: u16,
@@ -56,7 +50,7 @@ fn bits_of(work: &[u16], t: u16) -> usize
     requires { InTypes work.now t }
     ensures { result ≡ bits_in_lem work.now t }
 {
-    wide(work[TYPES + 4 * (t as usize) + 3])
+    usize::from(work[TYPES + 4 * (t as usize) + 3])
 }
 
 // A type that may stand in a pair and be used again: no arrow.
@@ -92,13 +86,7 @@ fn same(work: &[u16], t: u16, r: Record) -> bool
     requires { InTypes work.now t }
     ensures { result ≡ same_in_lem work.now t r }
 {
-    if kind_of(work, t) != r.kind {
-        return false;
-    }
-    if left_of(work, t) != r.left {
-        return false;
-    }
-    right_of(work, t) == r.right
+    kind_of(work, t) == r.kind && left_of(work, t) == r.left && right_of(work, t) == r.right
 }
 
 // Where a record stands in the table, or where it would come. It stands behind its sides: so all products of a row are found in one pass.
@@ -107,14 +95,12 @@ fn number_in(work: &[u16], r: Record) -> u16
     ensures { Searched work.now r result }
 {
     let n = work[TYPE_COUNT];
-    let mut k: u16 = r.right + 1;
-    while k < n {
+    for k in r.right + 1..n {
         if same(work, k, r) {
             return k;
         }
-        k = k + 1;
     }
-    k
+    n
 }
 
 // The sides have the sorts that the form asks for.
@@ -123,16 +109,11 @@ fn formed(work: &[u16], r: Record) -> bool
     ensures { result ≡ formed_in work.now r }
 {
     let left = shares(work, r.left);
-    if r.kind == 2 {
-        if left {
-            return shares(work, r.right);
-        }
-        return false;
+    match r.kind {
+        2 => left && shares(work, r.right),
+        3 => left,
+        _ => !left,
     }
-    if r.kind == 3 {
-        return left;
-    }
-    !left
 }
 
 fn store(work: &mut [u16], k: u16, r: Record, bits: u16)
@@ -148,49 +129,43 @@ fn store(work: &mut [u16], k: u16, r: Record, bits: u16)
 }
 
 // The number of a record, put at the table's end where it is new: 35, then 34, at a place.
-pub fn listed(work: &mut [u16], r: Record, place: u16) -> FoundType
+pub fn listed(work: &mut [u16], r: Record, place: u16) -> Result<u16, Refusal>
     requires { Listable work.old r }
     ensures { ListedSays work.old r place result work.new }
 {
     let k = number_in(work, r);
     if k < work[TYPE_COUNT] {
-        return FoundType::At(k);
+        return Ok(k);
     }
     if !formed(work, r) {
-        return FoundType::Refused(35, place);
+        return Err(Reason::WrongSide.at(place as usize));
     }
     let bits = bits_of(work, r.left) + bits_of(work, r.right);
     if 128 < bits {
-        return FoundType::Refused(34, place);
+        return Err(Reason::TextLimit.at(place as usize));
     }
     if MOST_TYPES <= k {
-        return FoundType::Refused(34, place);
+        return Err(Reason::TextLimit.at(place as usize));
     }
     store(work, k, r, bits as u16);
-    FoundType::At(k)
+    Ok(k)
 }
 
 // A bit and so many more left of it, each in a product that is listed: 34 at a place.
-pub fn row(work: &mut [u16], more: usize, place: u16) -> FoundType
+pub fn row(work: &mut [u16], more: usize, place: u16) -> Result<u16, Refusal>
     requires { (making_size ≤ length work.old) × (get_or work.old type_count_at 0 ≤ 256) }
     ensures { RowSays work.old more place result work.new }
 {
     let mut t: u16 = 0;
-    let mut i: usize = 0;
-    while i < more {
+    for _ in 0..more {
         let r = Record {
             kind: 2,
             left: 0,
             right: t,
         };
-        let x = listed(work, r, place);
-        let FoundType::At(u) = x else {
-            return x;
-        };
-        t = u;
-        i = i + 1;
+        t = listed(work, r, place)?;
     }
-    FoundType::At(t)
+    Ok(t)
 }
 
 // The table begins with the single bit; there are no nodes, and nothing was put in.

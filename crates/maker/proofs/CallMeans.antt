@@ -4,6 +4,7 @@ use mathlib.Core.Path.{◌≡◌, refl, sym, ap, ◌∙◌}
 use mathlib.Core.List.{List, ◌++◌}
 use lib.Dec.{leb}
 use lib.ListN.{length, drop}
+use Rattle.std.proofs.Common.{Ok}
 use Rattle.calculus.specs.Answer.{Answer, good, refused, ◌>>=◌, need}
 use Rattle.calculus.specs.Read.{read_sheet}
 use Rattle.calculus.proofs.Answers.{refused≢good, good-inj, on-need, on-bind}
@@ -14,7 +15,6 @@ use Rattle.notation_theorems.specs.Circuits.{Says}
 use Rattle.notation_theorems.proofs.TermsMean.{make_means}
 use Rattle.notation_theorems.proofs.Reading.{of_bytes, make-reads}
 use Rattle.notation_theorems.proofs.TextCircuit.{text_decides}
-use Rattle.translator.specs.declared.Answer.TheVariants as answer
 use Rattle.maker.specs.Made.{called_make}
 
 -- a text, what it says, and the sheet of the term that it means
@@ -52,7 +52,7 @@ said_good : (a : Answer Written) (n : ℕ) → good n ≡ said_make a → (v : W
 said_good (good v) n e = (v, refl)
 said_good (refused why) n e = absurd (refused≢good (sym e))
 
-module _ (text out places w out' places' w' : List ℕ) (n : ℕ) (c : called_make (answer.Written n) out' places' w' ≡ make_call text out places w) where
+module _ (text out places w out' places' w' : List ℕ) (n : ℕ) (c : called_make (Ok n) out' places' w' ≡ make_call text out places w) where
   abbrev whole : Answer Written
   whole = make_answer (length w) text (length out) (length places)
 
@@ -88,8 +88,8 @@ module _ (text out places w out' places' w' : List ℕ) (n : ℕ) (c : called_ma
 
 -- two accepted calls on one text, whatever each is lent, write the same bytes and places; so `translate` gives one netlist
 pub call_decides :
-    (text out places w out₁ places₁ w₁ : List ℕ) (n : ℕ) → called_make (answer.Written n) out₁ places₁ w₁ ≡ make_call text out places w
-    → (out' places' w' out₂ places₂ w₂ : List ℕ) (m : ℕ) → called_make (answer.Written m) out₂ places₂ w₂ ≡ make_call text out' places' w'
+    (text out places w out₁ places₁ w₁ : List ℕ) (n : ℕ) → called_make (Ok n) out₁ places₁ w₁ ≡ make_call text out places w
+    → (out' places' w' out₂ places₂ w₂ : List ℕ) (m : ℕ) → called_make (Ok m) out₂ places₂ w₂ ≡ make_call text out' places' w'
     → (v : Written) × ((make_answer (length w) text (length out) (length places) ≡ good v) × (make_answer (length w') text (length out') (length places') ≡ good v))
 call_decides text out places w out₁ places₁ w₁ n c out' places' w' out₂ places₂ w₂ m d =
     let (v, e) = call-written text out places w out₁ places₁ w₁ n c in

@@ -3,17 +3,18 @@
 use Prim.Native.Nat.{ℕ}
 use mathlib.Core.Path.{◌≡◌, sym, ap, ◌∙◌}
 use mathlib.Core.List.{List}
+use Rattle.std.proofs.Common.{Result}
+use Rattle.answers.specs.declared.Refusal.{Refusal}
 use contract.Lifetimes.{Lfts}
 use denote.Triple.Clauses.{AtExit}
 use borrow.Fn.Kinds.{Dens, res_t, ended_of}
 use Rattle.translator.proofs.SaidLaws.{SameResult, same-call}
-use Rattle.translator.specs.declared.Answer as code
 use Rattle.notation_calculus.specs.Make.{MakeCall}
 use Rattle.maker.specs.Made.{called_make}
 use Rattle.maker.proofs.make.Kinds as make
 use Rattle.maker.proofs.make.Reads as make-reads
 
-same-called : (r q : code.Answer) (o o' p p' w w' : List ℕ) → called_make r o p w ≡ called_make q o' p' w' → SameResult r q o o' w w' × (p ≡ p')
+same-called : (r q : Result ℕ Refusal) (o o' p p' w w' : List ℕ) → called_make r o p w ≡ called_make q o' p' w' → SameResult r q o o' w w' × (p ≡ p')
 same-called r q o o' p p' w w' e =
     (same-call r q o o' w w' (ap (λ (c : MakeCall). record { said = c.said; out = c.out; work = c.work }) e), ap (λ (c : MakeCall). c.places) e)
 

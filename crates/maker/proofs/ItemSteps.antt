@@ -4,11 +4,13 @@ use mathlib.Core.Path.{◌≡◌, refl, sym, ap, ◌∙◌, subst}
 use mathlib.Core.Bool.{Bool, true, false, cond}
 use mathlib.Core.List.{List, [], ◌∷◌, ◌++◌, append_assoc, append-nil}
 use native.Mathlib.Omega.{arith}
-use native.Mathlib.Decide.{dec_le}
 use lib.Dec.{ltb}
 use lib.ListN.{length, drop, length-append}
 use lib.Seq.{drop_at}
-use Rattle.calculus.specs.Answer.{Answer, good, refused, refuse, ◌>>=◌, need}
+use Rattle.std.proofs.Common.{Option, Some, None, Result, Ok, Err, IsOk}
+use Rattle.answers.specs.declared.Refusal.{Refusal}
+use Rattle.answers.specs.Refusals.{said_why}
+use Rattle.calculus.specs.Answer.{Answer, good, refused, ◌>>=◌, need}
 use Rattle.calculus.proofs.Answers.{refused≢good, good-inj, on-bind}
 use Rattle.notation_calculus.specs.Words.{ends, table, type, Word}
 use Rattle.notation_calculus.specs.Trees.{TypeTree, Clause, Line, Text}
@@ -18,14 +20,11 @@ use Rattle.notation_calculus.specs.Make.{lines_table, above}
 use Rattle.notation_theorems.proofs.Answering.{on_any, on_good}
 use Rattle.words.specs.Next.{Said}
 use Rattle.words.specs.Lexed.{from, Onward, Stands}
-use Rattle.grammar.specs.declared.steps.End.{End}
-use Rattle.grammar.specs.Ends.{rest_of, type_step, term_step, Ends}
+use Rattle.grammar.specs.Ends.{rest_of, type_step, term_step, Reaches, End, Ends}
 use Rattle.grammar.specs.Skips.{list_end, clause_end, item_end}
 use Rattle.grammar.proofs.EndLaws.{is_yes, is_no}
 use Rattle.grammar.proofs.ItemLaws.{type_clause_rest, term_clause_rest}
-use Rattle.maker.specs.declared.lines.Went as went
-use Rattle.maker.specs.declared.lines.Went.TheVariants as went-is
-use Rattle.maker.specs.declared.Stage.TheVariants as stage
+use Rattle.maker.specs.declared.lines.Went.{Went}
 use Rattle.maker.specs.Stages.{FarKept, TextStands}
 use Rattle.maker.specs.Lines.{types_line, LineThere, CanLine, LineMade, LineAs, LineSays, ItemsLeft, CanItem, ItemOn, ItemAs, ItemSays, LinesSay}
 use Rattle.maker.proofs.StageLaws.{far_none, far_then, stage_passed, stage_refused}
@@ -125,13 +124,13 @@ module _ (go : Scope → State → TypeTree → Answer Found) where
   by_both σ [] ls τ e = ap (λ (s : State). lines_by s ls) (good-inj e)
   by_both σ (l ∷ ks) ls τ e = on-bind (go (above l.seen) σ l.type) (λ t. lines_by t.state ks) τ e λ t h k. bind_good (go (above l.seen) σ l.type) (λ t. lines_by t.state (ks ++ ls)) t h ∙ by_both t.state ks ls τ k
 
-  refused_on : (n p : ℕ) (m : Answer Found) (f g : Found → Answer State) → ((t : Found) → f t ≡ refuse n p → g t ≡ refuse n p) → (m >>= f) ≡ refuse n p → (m >>= g) ≡ refuse n p
-  refused_on n p (good t) f g k e = k t e
-  refused_on n p (refused why) f g k e = e
+  refused_on : (z : Refusal) (m : Answer Found) (f g : Found → Answer State) → ((t : Found) → f t ≡ refused (said_why z) → g t ≡ refused (said_why z)) → (m >>= f) ≡ refused (said_why z) → (m >>= g) ≡ refused (said_why z)
+  refused_on z (good t) f g k e = k t e
+  refused_on z (refused why) f g k e = e
 
-  by-stops : (σ : State) (ks ls : List Line) (n p : ℕ) → lines_by σ ks ≡ refuse n p → lines_by σ (ks ++ ls) ≡ refuse n p
-  by-stops σ [] ls n p e = absurd (refused≢good (sym e))
-  by-stops σ (l ∷ ks) ls n p e = refused_on n p (go (above l.seen) σ l.type) (λ t. lines_by t.state ks) (λ t. lines_by t.state (ks ++ ls)) (λ t h. by-stops t.state ks ls n p h) e
+  by-stops : (σ : State) (ks ls : List Line) (z : Refusal) → lines_by σ ks ≡ refused (said_why z) → lines_by σ (ks ++ ls) ≡ refused (said_why z)
+  by-stops σ [] ls z e = absurd (refused≢good (sym e))
+  by-stops σ (l ∷ ks) ls z e = refused_on z (go (above l.seen) σ l.type) (λ t. lines_by t.state ks) (λ t. lines_by t.state (ks ++ ls)) (λ t h. by-stops t.state ks ls z h) e
 
   bind-same : (m : Answer Found) (f g : Found → Answer State) → ((t : Found) → f t ≡ g t) → (m >>= f) ≡ (m >>= g)
   bind-same (good t) f g k = k t
@@ -148,8 +147,8 @@ lines-own X σ (l ∷ ls) = bind-same (own X) (own X (above l.seen) σ l.type) (
 table-both : (X : Text) (σ : State) (ks ls : List Line) (τ : State) → lines_table X σ ks ≡ good τ → lines_table X σ (ks ++ ls) ≡ lines_table X τ ls
 table-both X σ ks ls τ e = lines-own X σ (ks ++ ls) ∙ by_both (own X) σ ks ls τ (sym (lines-own X σ ks) ∙ e) ∙ sym (lines-own X τ ls)
 
-table-stops : (X : Text) (σ : State) (ks ls : List Line) (n p : ℕ) → lines_table X σ ks ≡ refuse n p → lines_table X σ (ks ++ ls) ≡ refuse n p
-table-stops X σ ks ls n p e = lines-own X σ (ks ++ ls) ∙ by-stops (own X) σ ks ls n p (sym (lines-own X σ ks) ∙ e)
+table-stops : (X : Text) (σ : State) (ks ls : List Line) (z : Refusal) → lines_table X σ ks ≡ refused (said_why z) → lines_table X σ (ks ++ ls) ≡ refused (said_why z)
+table-stops X σ ks ls z e = lines-own X σ (ks ++ ls) ∙ by-stops (own X) σ ks ls z (sym (lines-own X σ ks) ∙ e)
 
 -- ---- where an item ends
 
@@ -166,11 +165,9 @@ clause_ends : (ws : List Word) (c : Got Clause) → is table ws ≡ false → cl
 clause_ends ws c z e = sym (clause_end_by (is table ws) (is type ws) (list_end (type_step 80 false) (length ws) (behind ws)) (clause_at type_body (behind ws)) (clause_at term_body ws) (clause_end (type_step 80 false) (behind ws)) (clause_end (term_step 80) ws) (type_clause_rest (behind ws)) (term_clause_rest ws) z) ∙ rest_good (clauses_at ws) c e
 
 -- what was read does not end in a refusal
-ends_good : (text : List ℕ) (b : ℕ) (m : Answer (List Word)) (us : List Word) (r : End) → Ends text b m r → m ≡ good us → r.number ≡ 0
-ends_good text b m us r E e = elim (dec_le r.number 0) [
-  | yes z ↦ omega arith
-  | no z ↦ absurd (refused≢good (sym (E.refuses (λ q. z (omega arith))) ∙ e))
-]
+ends_good : (text : List ℕ) (b : ℕ) (m : Answer (List Word)) (us : List Word) (r : End) → Ends text b m r → m ≡ good us → IsOk r
+ends_good text b m us (Ok end) E e = refl
+ends_good text b m us (Err why) E e = absurd (refused≢good (sym E ∙ e))
 
 suc_of : (k n : ℕ) → k < n → (m : ℕ) × (n ≡ suc m)
 suc_of k zero h = absurd (omega arith)
@@ -215,8 +212,8 @@ module _ (text : List ℕ) (at seen : ℕ) (v : Said) (s : Stands text at v) whe
         lines_are : ls ≡ lines_of seen read-line.0.value ++ grown.more
         lines_are = cancel I.done.lines ls (lines_of seen read-line.0.value ++ grown.more) (sym I.split ∙ grown.lines ∙ append_assoc I.done.lines (lines_of (length I.done.clauses) read-line.0.value) grown.more ∙ ap (λ (k : ℕ). I.done.lines ++ (lines_of k read-line.0.value ++ grown.more)) I.count)
 
-        pub line-refuses : (σ : State) (n p : ℕ) → lines_table X σ (lines_of seen read-line.0.value) ≡ refuse n p → lines_table X σ ls ≡ refuse n p
-        line-refuses σ n p e = ap (λ (l : List Line). lines_table X σ l) lines_are ∙ table-stops X σ (lines_of seen read-line.0.value) grown.more n p e
+        pub line-refuses : (σ : State) (e : Refusal) → lines_table X σ (lines_of seen read-line.0.value) ≡ refused (said_why e) → lines_table X σ ls ≡ refused (said_why e)
+        line-refuses σ e h = ap (λ (l : List Line). lines_table X σ l) lines_are ∙ table-stops X σ (lines_of seen read-line.0.value) grown.more e h
 
         pub line_on : (w' : List ℕ) (σ : State) (end known : ℕ) → LineMade text w' X seen σ read-line.0.value read-line.0.rest (length (from text v.end)) end known → ItemOn text w' X σ ls (length here) end known
         line_on w' σ end known M = record {
@@ -238,40 +235,41 @@ module _ (text : List ℕ) (at seen : ℕ) (v : Said) (s : Stands text at v) whe
         }
 
       -- a definition
-      module _ (t : ¬ (v.code ≡ 7)) (r : End) (E : Ends text (length here) (item_end (type_step 80 false) (term_step 80) here) r) where
+      module _ (t : ¬ (v.code ≡ 7)) where
         read-clause : (c : Got Clause) × ((clauses_at here ≡ good c) × ((next : Items) × ((with_clause I.done c.value ≡ good next) × (items_from rounds-left.0 next c.rest ≡ got (record { clauses = X.clauses; lines = X.lines }) I.stop))))
         read-clause = round.clause (is_no text at v s ends z) (is_no text at v s table t)
 
         ends_at : item_end (type_step 80 false) (term_step 80) here ≡ good read-clause.0.rest
         ends_at = clause_ends here read-clause.0 (is_no text at v s table t) read-clause.1.0
 
-        none : r.number ≡ 0
-        none = ends_good text (length here) _ read-clause.0.rest r E ends_at
-
-        rest-is : read-clause.0.rest ≡ from text r.at
-        rest-is = good-inj (sym ends_at ∙ (E.reaches none).is)
+        pub clause-good : (r : End) → Ends text (length here) (item_end (type_step 80 false) (term_step 80) here) r → IsOk r
+        clause-good r E = ends_good text (length here) _ read-clause.0.rest r E ends_at
 
         next_is : read-clause.1.1.0 ≡ record { clauses = I.done.clauses ++ read-clause.0.value ∷ []; lines = I.done.lines }
         next_is = clause_more I.done read-clause.0.value read-clause.1.1.0 read-clause.1.1.1.0
 
-        pub clause-on : (w : List ℕ) (σ : State) → TextStands text w X σ → ItemOn text w X σ ls (length here) r.at (seen + 1)
-        clause-on w σ S = record {
-          next = σ;
-          others = ls;
-          stands = S;
-          left = record {
-            lexed = (E.reaches none).lexed;
-            done = read-clause.1.1.0;
-            rounds = rounds-left.0;
-            enough = omega (arith, (E.reaches none).fewer, I.enough, rounds-left.1);
-            stop = I.stop;
-            total = ap (λ (us : List Word). items_from rounds-left.0 read-clause.1.1.0 us) (sym rest-is) ∙ read-clause.1.1.1.1;
-            count = omega (arith, ap (λ (i : Items). length i.clauses) next_is, length-append I.done.clauses (read-clause.0.value ∷ []), I.count);
-            split = I.split ∙ sym (ap (λ (i : Items). i.lines ++ ls) next_is);
-          };
-          table = refl;
-          fewer = (E.reaches none).fewer;
-        }
+        module _ (end : ℕ) (E : Reaches text (length here) (item_end (type_step 80 false) (term_step 80) here) end) where
+          rest-is : read-clause.0.rest ≡ from text end
+          rest-is = good-inj (sym ends_at ∙ E.is)
+
+          pub clause-on : (w : List ℕ) (σ : State) → TextStands text w X σ → ItemOn text w X σ ls (length here) end (seen + 1)
+          clause-on w σ S = record {
+            next = σ;
+            others = ls;
+            stands = S;
+            left = record {
+              lexed = E.lexed;
+              done = read-clause.1.1.0;
+              rounds = rounds-left.0;
+              enough = omega (arith, E.fewer, I.enough, rounds-left.1);
+              stop = I.stop;
+              total = ap (λ (us : List Word). items_from rounds-left.0 read-clause.1.1.0 us) (sym rest-is) ∙ read-clause.1.1.1.1;
+              count = omega (arith, ap (λ (i : Items). length i.clauses) next_is, length-append I.done.clauses (read-clause.0.value ∷ []), I.count);
+              split = I.split ∙ sym (ap (λ (i : Items). i.lines ++ ls) next_is);
+            };
+            table = refl;
+            fewer = E.fewer;
+          }
 
 -- ---- the answers of `item`
 
@@ -279,7 +277,7 @@ module _ (text w : List ℕ) (at seen : ℕ) (q : CanItem text w at seen) (v : S
   pub item_few : seen ≤ 256
   item_few = omega (arith, items-few text at seen v s q.X q.ls q.left, q.stands.clauses.rows.few)
 
-  pub item_ends : v.code ≡ 0 → ItemSays text w at seen went-is.Ends w
+  pub item_ends : v.code ≡ 0 → ItemSays text w at seen (Ok None) w
   item_ends z = record { kept = far_none w; says = λ X σ ls S I. (S, ends-none text at seen v s X ls I z) }
 
   module _ (z : ¬ (v.code ≡ 0)) where
@@ -294,19 +292,28 @@ module _ (text w : List ℕ) (at seen : ℕ) (q : CanItem text w at seen) (v : S
       there = line-there text at seen v s q.X q.ls q.left z t;
     }
 
-    line-item : (t : v.code ≡ 7) (r : went.Went) (w' : List ℕ) (X : Text) (σ : State) (ls : List Line) (I : ItemsLeft text X at seen ls) → LineAs text w' X seen σ (read-line text at seen v s X ls I z t).0.value (read-line text at seen v s X ls I z t).0.rest (length (from text v.end)) r → ItemAs text w' X σ ls (length (from text at)) r
-    line-item t (went-is.On end known) w' X σ ls I M = line_on text at seen v s X ls I z t w' σ end known M
-    line-item t went-is.Ends w' X σ ls I M = absurd M
-    line-item t (went-is.Refused n p) w' X σ ls I M = line-refuses text at seen v s X ls I z t σ n p M
+    -- what `line` answers, for whatever text, state and lines
+    says_line : (t : v.code ≡ 7) (r : Result Went Refusal) (w' : List ℕ) → LineSays text w v.end seen r w' → (X : Text) (σ : State) (ls : List Line) → TextStands text w X σ → (I : ItemsLeft text X at seen ls) → LineAs text w' X seen σ (read-line text at seen v s X ls I z t).0.value (read-line text at seen v s X ls I z t).0.rest (length (from text v.end)) r
+    says_line t r w' L X σ ls S I = L.says X σ (read-line text at seen v s X ls I z t).0.value (read-line text at seen v s X ls I z t).0.rest S (items-few text at seen v s X ls I) (line-there text at seen v s X ls I z t)
 
-    pub item-says : (t : v.code ≡ 7) (r : went.Went) (w' : List ℕ) → LineSays text w v.end seen r w' → ItemSays text w at seen r w'
-    item-says t r w' L = record {
+    pub item-says : v.code ≡ 7 → (past : Went) (w' : List ℕ) → LineSays text w v.end seen (Ok past) w' → ItemSays text w at seen (Ok (Some past)) w'
+    item-says t past w' L = record {
       kept = L.kept;
-      says = λ X σ ls S I. line-item t r w' X σ ls I (L.says X σ (read-line text at seen v s X ls I z t).0.value (read-line text at seen v s X ls I z t).0.rest S (items-few text at seen v s X ls I) (line-there text at seen v s X ls I z t));
+      says = λ X σ ls S I. line_on text at seen v s X ls I z t w' σ past.at past.seen (says_line t (Ok past) w' L X σ ls S I);
     }
 
-    pub item-clause : ¬ (v.code ≡ 7) → (r : End) → Ends text (length (from text at)) (item_end (type_step 80 false) (term_step 80) (from text at)) r → ItemSays text w at seen (went-is.On r.at (seen + 1)) w
-    item-clause t r E = record { kept = far_none w; says = λ X σ ls S I. clause-on text at seen v s X ls I z t r E w σ S }
+    pub item_refused : v.code ≡ 7 → (e : Refusal) (w' : List ℕ) → LineSays text w v.end seen (Err e) w' → ItemSays text w at seen (Err e) w'
+    item_refused t e w' L = record {
+      kept = L.kept;
+      says = λ X σ ls S I. line-refuses text at seen v s X ls I z t σ e (says_line t (Err e) w' L X σ ls S I);
+    }
+
+    module _ (t : ¬ (v.code ≡ 7)) (r : End) (E : Ends text (length (from text at)) (item_end (type_step 80 false) (term_step 80) (from text at)) r) where
+      pub item_good : IsOk r
+      item_good = clause-good text at seen v s q.X q.ls q.left z t r E
+
+      pub item-clause : (end : ℕ) → r ≡ Ok end → ItemSays text w at seen (Ok (Some (record { at = end; seen = seen + 1 }))) w
+      item-clause end e = record { kept = far_none w; says = λ X σ ls S I. clause-on text at seen v s X ls I z t end (subst (Ends text (length (from text at)) (item_end (type_step 80 false) (term_step 80) (from text at))) e E) w σ S }
 
 -- ---- all items: the loop
 
@@ -324,38 +331,38 @@ module _ (text w₀ : List ℕ) (start above : ℕ) (q : CanItem text w₀ start
   pub items_can : CanItem text w at seen
   items_can = record { X = q.X; σ = so_far.next; ls = so_far.others; stands = so_far.stands; left = so_far.left }
 
-  module _ (r : went.Went) (w' : List ℕ) (T : ItemSays text w at seen r w') where
+  pub items_refused : (e : Refusal) (w' : List ℕ) → ItemSays text w at seen (Err e) w' → LinesSay text w₀ start above (Err e) w'
+  items_refused e w' T = record {
+    kept = far_then w₀ w w' G.kept T.kept;
+    says = λ X σ ls S I.
+        let a = G.goes X σ ls S I in
+        stage_refused text w' X e (lines_table X σ ls) (a.table ∙ T.says X a.next a.others a.stands a.left);
+  }
+
+  module _ (r : Option Went) (w' : List ℕ) (T : ItemSays text w at seen (Ok r) w') where
     pub items_kept : FarKept w₀ w'
     items_kept = far_then w₀ w w' G.kept T.kept
 
-    as-item : (r' : went.Went) → r ≡ r' → (X : Text) (σ : State) (ls : List Line) → TextStands text w X σ → ItemsLeft text X at seen ls → ItemAs text w' X σ ls (length (from text at)) r'
-    as-item r' e X σ ls S I = subst (λ (x : went.Went). ItemAs text w' X σ ls (length (from text at)) x) e (T.says X σ ls S I)
+    as-item : (r' : Option Went) → r ≡ r' → (X : Text) (σ : State) (ls : List Line) → TextStands text w X σ → ItemsLeft text X at seen ls → ItemAs text w' X σ ls (length (from text at)) (Ok r')
+    as-item r' e X σ ls S I = subst (λ (x : Option Went). ItemAs text w' X σ ls (length (from text at)) (Ok x)) e (T.says X σ ls S I)
 
-    pub items_more : (next known : ℕ) → r ≡ went-is.On next known → ItemsGoing text w₀ start above w' next known
-    items_more next known e = record {
+    pub items_more : (past : Went) → r ≡ Some past → ItemsGoing text w₀ start above w' past.at past.seen
+    items_more past e = record {
       kept = items_kept;
       goes = λ X σ ls S I.
           let a = G.goes X σ ls S I in
-          let b = as-item (went-is.On next known) e X a.next a.others a.stands a.left in
+          let b = as-item (Some past) e X a.next a.others a.stands a.left in
           record { next = b.next; others = b.others; stands = b.stands; left = b.left; table = a.table ∙ b.table; fewer = omega (arith, a.fewer, b.fewer) };
     }
 
-    pub items-less : (next known : ℕ) → r ≡ went-is.On next known → length (from text next) < length (from text at)
-    items-less next known e = (as-item (went-is.On next known) e q.X so_far.next so_far.others so_far.stands so_far.left).fewer
+    pub items-less : (past : Went) → r ≡ Some past → length (from text past.at) < length (from text at)
+    items-less past e = (as-item (Some past) e q.X so_far.next so_far.others so_far.stands so_far.left).fewer
 
-    pub items_end : r ≡ went-is.Ends → LinesSay text w₀ start above stage.Passed w'
+    pub items_end : r ≡ None → LinesSay text w₀ start above (Ok tt) w'
     items_end e = record {
       kept = items_kept;
       says = λ X σ ls S I.
           let a = G.goes X σ ls S I in
-          let (b, z) = as-item went-is.Ends e X a.next a.others a.stands a.left in
-          stage_passed text w' X a.next stage.Passed (lines_table X σ ls) refl (a.table ∙ ap (λ (l : List Line). lines_table X a.next l) z) b;
-    }
-
-    pub items_refused : (n p : ℕ) → r ≡ went-is.Refused n p → LinesSay text w₀ start above (stage.Refused n p) w'
-    items_refused n p e = record {
-      kept = items_kept;
-      says = λ X σ ls S I.
-          let a = G.goes X σ ls S I in
-          stage_refused text w' X n p (lines_table X σ ls) (a.table ∙ as-item (went-is.Refused n p) e X a.next a.others a.stands a.left);
+          let (b, z) = as-item None e X a.next a.others a.stands a.left in
+          stage_passed text w' X a.next (lines_table X σ ls) (a.table ∙ ap (λ (l : List Line). lines_table X a.next l) z) b;
     }

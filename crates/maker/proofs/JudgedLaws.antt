@@ -8,7 +8,10 @@ use native.Mathlib.Decide.{dec_le}
 use borrow.Author.Tests.{eq-eqb, ne_eqb}
 use lib.Dec.{eqb}
 use lib.ListN.{length}
-use Rattle.calculus.specs.Answer.{Answer, good, refused, refuse, ◌>>=◌}
+use Rattle.std.proofs.Common.{Result, Ok, Err}
+use Rattle.answers.specs.declared.Refusal.{Refusal}
+use Rattle.answers.specs.Refusals.{said_why}
+use Rattle.calculus.specs.Answer.{Answer, good, refused, ◌>>=◌}
 use Rattle.calculus.specs.Types.{Table}
 use Rattle.calculus.proofs.Answers.{refused≢good, good-inj}
 use Rattle.notation_calculus.specs.Words.{Name, same_name, Word}
@@ -29,22 +32,17 @@ use Rattle.made_types.specs.States.{Beginning}
 use Rattle.made_types.proofs.Choices.{both_first, both_later}
 use Rattle.made_types.proofs.Sorts.{ready_of}
 use Rattle.made_nodes.specs.declared.Sub.{Sub}
-use Rattle.made_nodes.specs.Held.{TermHeld}
+use Rattle.made_nodes.specs.Held.{TermHeld, MadeIn}
 use Rattle.clauses.specs.declared.rows.Row.{Row}
 use Rattle.clauses.specs.Rows.{RowOf}
-use Rattle.walks.specs.declared.TypeEnd as type
-use Rattle.walks.specs.declared.TypeEnd.TheVariants as type-end
-use Rattle.walks.specs.declared.TermEnd as term
-use Rattle.walks.specs.declared.TermEnd.TheVariants as term-end
+use Rattle.walks.specs.declared.TypeEnd.{TypeEnd}
 use Rattle.walks.specs.Walked.{TermsWalked}
-use Rattle.walks.specs.Says.{TypeSays, TermAnswers, CanTerm, TermSays}
+use Rattle.walks.specs.Says.{TypeSays, CanTerm, TermSays}
 use Rattle.walks.proofs.Kept.{terms_of_types}
-use Rattle.maker.specs.declared.Stage as code
-use Rattle.maker.specs.declared.Stage.TheVariants as stage
-use Rattle.maker.specs.Stages.{FarKept, KnowsAbove}
+use Rattle.maker.specs.Stages.{KnowsAbove}
 use Rattle.maker.specs.Judged.{row_judged, BodyRead, CanTry, TryAnswers, TrySays}
 use Rattle.maker.proofs.StageLaws.{far_types, far_terms, stands_of, knows_on_types, knows_on_terms}
-use Rattle.maker.proofs.LineLaws.{bind_good, bind_refused, TypedBy, own_typed}
+use Rattle.maker.proofs.LineLaws.{bind_good, bind_refused, own_typed}
 
 true≢false : {C : Type 0} → ◌≡◌ {A = Bool} true false → C
 true≢false e = let z : ◌≡◌ {A = ℕ} 0 1 = cc in absurd (omega arith)
@@ -109,12 +107,6 @@ judged_is text c r R =
     ∙ ap (λ (s : Bool). eqb r.types 0 && (eqb r.numbers 0 && not (s && same_name c.head.name main_name))) (sort_false (is_type c.body) ∙ ap not R.sort)
     ∙ ap (λ (n : Name). eqb r.types 0 && (eqb r.numbers 0 && not (not r.sort && same_name n main_name))) R.name_is
 
-pub try_sort : (text w : List ℕ) (at : ℕ) (sort s : Bool) → sort ≡ s → CanTry text w at sort → CanTry text w at s
-try_sort text w at sort s e q = subst (λ (b : Bool). CanTry text w at b) e q
-
-pub tries_sort : (text w : List ℕ) (at : ℕ) (sort s : Bool) (r : code.Stage) (w' : List ℕ) → sort ≡ s → TrySays text w at s r w' → TrySays text w at sort r w'
-tries_sort text w at sort s r w' e q = subst (λ (b : Bool). TrySays text w at b r w') (sym e) q
-
 -- ---- what is made only grows
 
 begins : {w : List ℕ} {Θ Φ : Table} → HoldsTypes w Θ → Grown Θ Φ → Beginning Θ Φ
@@ -143,21 +135,15 @@ term_read {text} {at} {b} B = body_by of_term (term_at most_nested (from text at
 
 -- ---- a type
 
-module _ (text w : List ℕ) (at : ℕ) (r : type.TypeEnd) (w' : List ℕ) (T : TypeSays text w at 80 81 0 r w') where
-  type-far : FarKept w w'
-  type-far = far_types 80 0 w w' (omega arith) T.walked
+module _ (text w : List ℕ) (at : ℕ) (w' : List ℕ) where
+  module _ (X : Text) (seen : ℕ) (σ : State) (K : KnowsAbove text w X seen σ) (t : Got TypeTree) (h : type_at most_nested false (from text at) ≡ good t) where
+    type_refused : (e : Refusal) → TypeSays text w at 80 81 0 (Err e) w' → judged_body X seen σ (of_type t.value) ≡ refused (said_why e)
+    type_refused e T = bind_refused (type_of X most_nested (above seen) σ t.value) (λ x. good x.state.puts) e (own_typed text w at (Err e) w' T X seen σ K t h)
 
-  module _ (X : Text) (seen : ℕ) (σ : State) (K : KnowsAbove text w X seen σ) (t : Got TypeTree) (e : type_at most_nested false (from text at) ≡ good t) where
-    typed : TypedBy text w' (type_of X most_nested (above seen) σ t.value) t.rest r
-    typed = own_typed text w at r w' T X seen σ K t e
-
-    type_refused : (n p : ℕ) → r ≡ type-end.Refused n p → judged_body X seen σ (of_type t.value) ≡ refuse n p
-    type_refused n p z = bind_refused (type_of X most_nested (above seen) σ t.value) (λ x. good x.state.puts) n p (subst (λ (q : type.TypeEnd). TypedBy text w' (type_of X most_nested (above seen) σ t.value) t.rest q) z typed)
-
-    type-made : (k end : ℕ) → r ≡ type-end.At k end → TryAnswers text w' X σ stage.Passed (judged_body X seen σ (of_type t.value))
-    type-made k end z =
-        let (x, (f, (H, o))) = subst (λ (q : type.TypeEnd). TypedBy text w' (type_of X most_nested (above seen) σ t.value) t.rest q) z typed in
-        subst (TryAnswers text w' X σ stage.Passed) (sym (bind_good (type_of X most_nested (above seen) σ t.value) (λ x. good x.state.puts) x f)) (record {
+    type-made : (k : TypeEnd) → TypeSays text w at 80 81 0 (Ok k) w' → TryAnswers text w' X σ (Ok tt) (judged_body X seen σ (of_type t.value))
+    type-made k T =
+        let (x, (f, (H, o))) = own_typed text w at (Ok k) w' T X seen σ K t h in
+        subst (TryAnswers text w' X σ (Ok tt)) (sym (bind_good (type_of X most_nested (above seen) σ t.value) (λ x. good x.state.puts) x f)) (record {
           next = x.state;
           stands = stands_of (knows_on_types text w w' X seen σ x.state T.walked K H);
           begins = begins K.walkable.state.types (type_grows X most_nested (above seen) σ t.value x (ready_of K.walkable.state.types) (tt, tt) f);
@@ -165,29 +151,29 @@ module _ (text w : List ℕ) (at : ℕ) (r : type.TypeEnd) (w' : List ℕ) (T : 
           cost = refl;
         })
 
-  pub tries_type_refused : (n p : ℕ) → r ≡ type-end.Refused n p → TrySays text w at true (stage.Refused n p) w'
-  tries_type_refused n p z = record {
-    kept = type-far;
-    says = λ X seen σ b K B. let (t, (e, f)) = type_read B in subst (λ (c : Body). judged_body X seen σ c ≡ refuse n p) f (type_refused X seen σ K t e n p z);
+  pub tries_type_refused : (e : Refusal) → TypeSays text w at 80 81 0 (Err e) w' → TrySays text w at true (Err e) w'
+  tries_type_refused e T = record {
+    kept = far_types 80 0 w w' (omega arith) T.walked;
+    says = λ X seen σ b K B. let (t, (h, f)) = type_read B in subst (λ (c : Body). judged_body X seen σ c ≡ refused (said_why e)) f (type_refused X seen σ K t h e T);
   }
 
-  pub tries_type : (k end : ℕ) → r ≡ type-end.At k end → TrySays text w at true stage.Passed w'
-  tries_type k end z = record {
-    kept = type-far;
-    says = λ X seen σ b K B. let (t, (e, f)) = type_read B in subst (λ (c : Body). TryAnswers text w' X σ stage.Passed (judged_body X seen σ c)) f (type-made X seen σ K t e k end z);
+  pub tries_type : (k : TypeEnd) → TypeSays text w at 80 81 0 (Ok k) w' → TrySays text w at true (Ok tt) w'
+  tries_type k T = record {
+    kept = far_types 80 0 w w' (omega arith) T.walked;
+    says = λ X seen σ b K B. let (t, (e, f)) = type_read B in subst (λ (c : Body). TryAnswers text w' X σ (Ok tt) (judged_body X seen σ c)) f (type-made X seen σ K t e k T);
   }
 
 -- ---- a term
 
-abbrev pub TermBy : List ℕ → Answer Made → term.TermEnd → Type 0
-TermBy w m (term-end.At s) = (x : Made) × ((m ≡ good x) × ((HoldsState w x.state) × (TermHeld w s x)))
-TermBy w m (term-end.Refused number place) = m ≡ refuse number place
+abbrev pub TermBy : List ℕ → Answer Made → Result Sub Refusal → Type 0
+TermBy w m (Ok s) = (x : Made) × ((m ≡ good x) × ((HoldsState w x.state) × (TermHeld w s x)))
+TermBy w m (Err e) = m ≡ refused (said_why e)
 
-pub term_by_lem : (w : List ℕ) (m : Answer Made) (r : term.TermEnd) → TermAnswers w r m → TermBy w m r
-term_by_lem w (good x) (term-end.At s) a = (x, (refl, (a.0, a.1)))
-term_by_lem w (good x) (term-end.Refused number place) a = absurd a
-term_by_lem w (refused why) (term-end.At s) a = absurd a
-term_by_lem w (refused why) (term-end.Refused number place) a = ap refused a
+pub term_by_lem : (w : List ℕ) (m : Answer Made) (r : Result Sub Refusal) → MadeIn w r m → TermBy w m r
+term_by_lem w (good x) (Ok s) a = (x, (refl, (a.0, a.1)))
+term_by_lem w (good x) (Err e) a = absurd a
+term_by_lem w (refused why) (Ok s) a = absurd a
+term_by_lem w (refused why) (Err e) a = ap refused a
 
 pub own_term : (text w : List ℕ) (at : ℕ) → CanTry text w at false → CanTerm text w at 80 81 0
 own_term text w at q =
@@ -202,21 +188,18 @@ own_term text w at q =
       reads = e;
     }
 
-module _ (text w : List ℕ) (at : ℕ) (r : term.TermEnd) (w' : List ℕ) (T : TermSays text w at 80 81 0 r w') where
-  term-far : FarKept w w'
-  term-far = far_terms 80 0 w w' (omega arith) T.walked
+module _ (text w : List ℕ) (at : ℕ) (w' : List ℕ) where
+  module _ (X : Text) (seen : ℕ) (σ : State) (K : KnowsAbove text w X seen σ) (t : Got Tree) (h : term_at most_nested (from text at) ≡ good t) where
+    termed : (r : Result Sub Refusal) → TermSays text w at 80 81 0 r w' → TermBy w' (term_of X most_nested (above seen) σ t.value) r
+    termed r T = term_by_lem w' (term_of X most_nested (above seen) σ t.value) r (T.says X (above seen) σ t K.walkable K.variables h)
 
-  module _ (X : Text) (seen : ℕ) (σ : State) (K : KnowsAbove text w X seen σ) (t : Got Tree) (e : term_at most_nested (from text at) ≡ good t) where
-    termed : TermBy w' (term_of X most_nested (above seen) σ t.value) r
-    termed = term_by_lem w' (term_of X most_nested (above seen) σ t.value) r (T.says X (above seen) σ t K.walkable K.variables e)
+    term_refused : (e : Refusal) → TermSays text w at 80 81 0 (Err e) w' → judged_body X seen σ (of_term t.value) ≡ refused (said_why e)
+    term_refused e T = bind_refused (term_of X most_nested (above seen) σ t.value) (λ x. good x.state.puts) e (termed (Err e) T)
 
-    term_refused : (n p : ℕ) → r ≡ term-end.Refused n p → judged_body X seen σ (of_term t.value) ≡ refuse n p
-    term_refused n p z = bind_refused (term_of X most_nested (above seen) σ t.value) (λ x. good x.state.puts) n p (subst (λ (q : term.TermEnd). TermBy w' (term_of X most_nested (above seen) σ t.value) q) z termed)
-
-    term_made : {s : Sub} → r ≡ term-end.At s → TryAnswers text w' X σ stage.Passed (judged_body X seen σ (of_term t.value))
-    term_made z =
-        let (x, (f, (H, o))) = subst (λ (q : term.TermEnd). TermBy w' (term_of X most_nested (above seen) σ t.value) q) z termed in
-        subst (TryAnswers text w' X σ stage.Passed) (sym (bind_good (term_of X most_nested (above seen) σ t.value) (λ x. good x.state.puts) x f)) (record {
+    term_made : (s : Sub) → TermSays text w at 80 81 0 (Ok s) w' → TryAnswers text w' X σ (Ok tt) (judged_body X seen σ (of_term t.value))
+    term_made s T =
+        let (x, (f, (H, o))) = termed (Ok s) T in
+        subst (TryAnswers text w' X σ (Ok tt)) (sym (bind_good (term_of X most_nested (above seen) σ t.value) (λ x. good x.state.puts) x f)) (record {
           next = x.state;
           stands = stands_of (knows_on_terms text w w' X seen σ x.state T.walked K H);
           begins = begins K.walkable.state.types (term_grows X most_nested (above seen) σ t.value x (ready_of K.walkable.state.types) (tt, tt) f);
@@ -224,14 +207,14 @@ module _ (text w : List ℕ) (at : ℕ) (r : term.TermEnd) (w' : List ℕ) (T : 
           cost = refl;
         })
 
-  pub tries_term_refused : (n p : ℕ) → r ≡ term-end.Refused n p → TrySays text w at false (stage.Refused n p) w'
-  tries_term_refused n p z = record {
-    kept = term-far;
-    says = λ X seen σ b K B. let (t, (e, f)) = term_read B in subst (λ (c : Body). judged_body X seen σ c ≡ refuse n p) f (term_refused X seen σ K t e n p z);
+  pub tries_term_refused : (e : Refusal) → TermSays text w at 80 81 0 (Err e) w' → TrySays text w at false (Err e) w'
+  tries_term_refused e T = record {
+    kept = far_terms 80 0 w w' (omega arith) T.walked;
+    says = λ X seen σ b K B. let (t, (h, f)) = term_read B in subst (λ (c : Body). judged_body X seen σ c ≡ refused (said_why e)) f (term_refused X seen σ K t h e T);
   }
 
-  pub tries_term : {s : Sub} → r ≡ term-end.At s → TrySays text w at false stage.Passed w'
-  tries_term z = record {
-    kept = term-far;
-    says = λ X seen σ b K B. let (t, (e, f)) = term_read B in subst (λ (c : Body). TryAnswers text w' X σ stage.Passed (judged_body X seen σ c)) f (term_made X seen σ K t e z);
+  pub tries_term : (s : Sub) → TermSays text w at 80 81 0 (Ok s) w' → TrySays text w at false (Ok tt) w'
+  tries_term s T = record {
+    kept = far_terms 80 0 w w' (omega arith) T.walked;
+    says = λ X seen σ b K B. let (t, (e, f)) = term_read B in subst (λ (c : Body). TryAnswers text w' X σ (Ok tt) (judged_body X seen σ c)) f (term_made X seen σ K t e s T);
   }

@@ -5,7 +5,10 @@ use mathlib.Core.Bool.{false}
 use mathlib.Core.List.{List, []}
 use native.Mathlib.Omega.{arith}
 use lib.ListN.{length}
-use Rattle.calculus.specs.Answer.{Answer, good, refused, refuse, ◌>>=◌}
+use Rattle.std.proofs.Common.{Result, Ok, Err}
+use Rattle.answers.specs.declared.Refusal.{Refusal}
+use Rattle.answers.specs.Refusals.{said_why}
+use Rattle.calculus.specs.Answer.{Answer, good, refused, ◌>>=◌}
 use Rattle.notation_calculus.specs.Trees.{TypeTree, no_types, Body, Text}
 use Rattle.notation_calculus.specs.Grammar.{most_nested}
 use Rattle.notation_calculus.specs.Making.{State, Found, Scope, put_in, type_of, Made, body_term, term_of}
@@ -14,16 +17,13 @@ use Rattle.making_memory.specs.Map.{clause_count_at, second_at_lem}
 use Rattle.made_types.specs.Held.{HoldsState}
 use Rattle.made_types.specs.States.{Begun}
 use Rattle.scopes.proofs.KeepLaws.{rows-kept}
-use Rattle.walks.specs.declared.TermEnd as term
-use Rattle.walks.specs.declared.TermEnd.TheVariants as term-end
-use Rattle.walks.specs.Says.{TermAnswers, CanTerm, TermSays}
+use Rattle.made_nodes.specs.declared.Sub.{Sub}
+use Rattle.made_nodes.specs.Held.{MadeIn}
+use Rattle.walks.specs.Says.{CanTerm, TermSays}
 use Rattle.walks.proofs.Kept.{clauses_on, clauses_on_terms}
-use Rattle.putting.specs.declared.BodyEnd as body
-use Rattle.putting.specs.declared.BodyEnd.TheVariants as body_end
+use Rattle.putting.specs.declared.BodyAt.{BodyAt}
 use Rattle.putting.specs.Main.{CanMain, MainSays}
 use Rattle.putting.proofs.MainLaws.{MainThere, main-there, main-not}
-use Rattle.maker.specs.declared.Stage as stages
-use Rattle.maker.specs.declared.Stage.TheVariants as stage
 use Rattle.maker.specs.Stages.{FarKept, TextStands}
 use Rattle.maker.specs.Lines.{CanItem, LinesSay}
 use Rattle.maker.specs.Judged.{SomeText, JudgedSay}
@@ -33,14 +33,14 @@ use Rattle.maker.proofs.LineLaws.{bind_good, bind_refused}
 
 -- ---- answers
 
-pub term_refused : (text w : List ℕ) (X : Text) (n p : ℕ) (m : Answer Made) → m ≡ refuse n p → TextTerm text w X (term-end.Refused n p) m
-term_refused text w X n p m e = subst (TextTerm text w X (term-end.Refused n p)) (sym e) refl
+pub term_refused : (text w : List ℕ) (X : Text) (e : Refusal) (m : Answer Made) → m ≡ refused (said_why e) → TextTerm text w X (Err e) m
+term_refused text w X e m h = subst (TextTerm text w X (Err e)) (sym h) refl
 
-term_stands : (text w : List ℕ) (X : Text) (m : Answer Made) (t : term.TermEnd) → ((τ : State) → HoldsState w τ → TextStands text w X τ) → TermAnswers w t m → TextTerm text w X t m
-term_stands text w X (good m) (term-end.At s) k a = (k m.state a.0, a.1)
-term_stands text w X (good m) (term-end.Refused n p) k a = a
-term_stands text w X (refused why) (term-end.At s) k a = a
-term_stands text w X (refused why) (term-end.Refused n p) k a = a
+term_stands : (text w : List ℕ) (X : Text) (m : Answer Made) (t : Result Sub Refusal) → ((τ : State) → HoldsState w τ → TextStands text w X τ) → MadeIn w t m → TextTerm text w X t m
+term_stands text w X (good m) (Ok s) k a = (k m.state a.0, a.1)
+term_stands text w X (good m) (Err e) k a = a
+term_stands text w X (refused why) (Ok s) k a = a
+term_stands text w X (refused why) (Err e) k a = a
 
 -- ---- `main`
 
@@ -57,21 +57,18 @@ whole_is X σ = refl
 pub main_can : (text w : List ℕ) (end : ℕ) → CanEnd text w end → CanMain text w 80
 main_can text w end q = record { short = q.stands.short; room = q.stands.room; level = omega arith; X = q.X; clauses = q.stands.clauses }
 
-module _ (text w : List ℕ) (end : ℕ) (r : body.BodyEnd) (w₁ : List ℕ) (M : MainSays text w 80 end r w₁) where
-  main-far : FarKept w w₁
-  main-far = far_types 81 0 w w₁ (omega arith) M.walked
-
-  pub main_refused : (n p : ℕ) → r ≡ body_end.Refused n p → MainMade text w end (term-end.Refused n p) w₁
-  main_refused n p e = record {
-    kept = main-far;
-    says = λ X σ S f. term_refused text w₁ X n p (main_made X σ) (whole_is X σ ∙ main-not X (types_in X) (bodies_in X) σ text w w₁ 80 end S.clauses S.state f n p (subst (λ (b : body.BodyEnd). MainSays text w 80 end b w₁) e M));
+module _ (text w : List ℕ) (end : ℕ) (w₁ : List ℕ) where
+  pub main_refused : (e : Refusal) → MainSays text w 80 end (Err e) w₁ → MainMade text w end (Err e) w₁
+  main_refused e M = record {
+    kept = far_types 81 0 w w₁ (omega arith) M.walked;
+    says = λ X σ S f. term_refused text w₁ X e (main_made X σ) (whole_is X σ ∙ main-not X (types_in X) (bodies_in X) σ text w w₁ 80 end S.clauses S.state f e M);
   }
 
-  module _ (begins top : ℕ) (e : r ≡ body_end.At begins top) where
-    there : (X : Text) (σ : State) → TextStands text w X σ → X.end ≡ end → MainThere X (types_in X) (bodies_in X) σ text w₁ 80 begins top
-    there X σ S f = main-there X (types_in X) (bodies_in X) σ text w w₁ 80 end S.clauses S.state f begins top (subst (λ (b : body.BodyEnd). MainSays text w 80 end b w₁) e M)
+  module _ (b : BodyAt) (M : MainSays text w 80 end (Ok b) w₁) where
+    there : (X : Text) (σ : State) → TextStands text w X σ → X.end ≡ end → MainThere X (types_in X) (bodies_in X) σ text w₁ 80 b.body b.top
+    there X σ S f = main-there X (types_in X) (bodies_in X) σ text w w₁ 80 end S.clauses S.state f b M
 
-    pub main-term-can : CanEnd text w end → CanTerm text w₁ begins 80 80 top
+    pub main-term-can : CanEnd text w end → CanTerm text w₁ b.body 80 80 b.top
     main-term-can q =
         let T = there q.X q.σ q.stands q.ends in
         record {
@@ -84,39 +81,33 @@ module _ (text w : List ℕ) (end : ℕ) (r : body.BodyEnd) (w₁ : List ℕ) (M
           reads = T.goes.reads;
         }
 
-    pub main-made : (t : term.TermEnd) (w₂ : List ℕ) → TermSays text w₁ begins 80 80 top t w₂ → MainMade text w end t w₂
+    pub main-made : (t : Result Sub Refusal) (w₂ : List ℕ) → TermSays text w₁ b.body 80 80 b.top t w₂ → MainMade text w end t w₂
     main-made t w₂ N = record {
-      kept = far_then w w₁ w₂ main-far (far_terms 80 top w₁ w₂ (omega arith) N.walked);
+      kept = far_then w w₁ w₂ (far_types 81 0 w w₁ (omega arith) M.walked) (far_terms 80 b.top w₁ w₂ (omega arith) N.walked);
       says = λ X σ S f.
           let T = there X σ S f in
           subst (TextTerm text w₂ X t) (sym (whole_is X σ ∙ T.goes.is))
           (term_stands text w₂ X (term_of X most_nested T.there.scope T.there.state T.goes.tree.value) t
-          (λ τ H. record { short = S.short; room = omega (arith, S.room, M.walked.same, N.walked.same); clauses = clauses_on_terms 80 top text w₁ w₂ N.walked X (clauses_on 81 0 text w w₁ M.walked X S.clauses); state = H })
+          (λ τ H. record { short = S.short; room = omega (arith, S.room, M.walked.same, N.walked.same); clauses = clauses_on_terms 80 b.top text w₁ w₂ N.walked X (clauses_on 81 0 text w w₁ M.walked X S.clauses); state = H })
           (N.says X T.there.scope T.there.state T.goes.tree T.came.walkable T.came.variables T.goes.reads));
     }
 
 -- ---- behind the judging
 
-pub judged_as : (text w : List ℕ) (r r' : stages.Stage) (w₁ : List ℕ) → r ≡ r' → JudgedSay text w r w₁ → JudgedSay text w r' w₁
-judged_as text w r r' w₁ e J = subst (λ (q : stages.Stage). JudgedSay text w q w₁) e J
-
-pub lines_as : (text w : List ℕ) (items seen : ℕ) (r r' : stages.Stage) (w₁ : List ℕ) → r ≡ r' → LinesSay text w items seen r w₁ → LinesSay text w items seen r' w₁
-lines_as text w items seen r r' w₁ e L = subst (λ (q : stages.Stage). LinesSay text w items seen q w₁) e L
-
 pub behind-some : (text w : List ℕ) (end : ℕ) → CanEnd text w end → SomeText text w
 behind-some text w end q = record { X = q.X; σ = q.σ; stands = q.stands }
 
-pub behind_refused : (text w : List ℕ) (end n p : ℕ) (w₁ : List ℕ) → JudgedSay text w (stage.Refused n p) w₁ → BehindMade text w end (term-end.Refused n p) w₁
-behind_refused text w end n p w₁ J = record {
+pub behind_refused : (text w : List ℕ) (end : ℕ) (e : Refusal) (w₁ : List ℕ) → JudgedSay text w (Err e) w₁ → BehindMade text w end (Err e) w₁
+behind_refused text w end e w₁ J = record {
   kept = J.kept;
-  says = λ X σ S f. term_refused text w₁ X n p (judged_from X 0 σ X.clauses >>= λ σ₁. main_made X σ₁) (bind_refused (judged_from X 0 σ X.clauses) (λ σ₁. main_made X σ₁) n p (refused_as text w₁ X n p (judged_from X 0 σ X.clauses) (J.says X σ S)));
+  says = λ X σ S f. term_refused text w₁ X e (judged_from X 0 σ X.clauses >>= λ σ₁. main_made X σ₁) (bind_refused (judged_from X 0 σ X.clauses) (λ σ₁. main_made X σ₁) e (refused_as text w₁ X e (judged_from X 0 σ X.clauses) (J.says X σ S)));
 }
 
-module _ (text w : List ℕ) (end : ℕ) (w₁ : List ℕ) (J : JudgedSay text w stage.Passed w₁) where
+module _ (text w : List ℕ) (end : ℕ) (w₁ : List ℕ) (J : JudgedSay text w (Ok tt) w₁) where
   pub behind_can : CanEnd text w end → CanEnd text w₁ end
   behind_can q = passed-with text w₁ q.X (judged_from q.X 0 q.σ q.X.clauses) (J.says q.X q.σ q.stands) λ σ₁ e S. record { X = q.X; σ = σ₁; stands = S; ends = q.ends }
 
-  pub behind-made : (t : term.TermEnd) (w₂ : List ℕ) → MainMade text w₁ end t w₂ → BehindMade text w end t w₂
+  pub behind-made : (t : Result Sub Refusal) (w₂ : List ℕ) → MainMade text w₁ end t w₂ → BehindMade text w end t w₂
   behind-made t w₂ M = record {
     kept = far_then w w₁ w₂ J.kept M.kept;
     says = λ X σ S f. passed-with text w₁ X (judged_from X 0 σ X.clauses) (J.says X σ S) λ σ₁ e S₁. subst (TextTerm text w₂ X t) (sym (bind_good (judged_from X 0 σ X.clauses) (λ σ₁. main_made X σ₁) σ₁ e)) (M.says X σ₁ S₁ f);
@@ -146,17 +137,17 @@ module _ (text w : List ℕ) (items seen end : ℕ) (w₁ : List ℕ) (B : Begun
   pub text_items : CanText text w items seen end → CanItem text w₁ items seen
   text_items q = record { X = q.X; σ = start; ls = q.X.lines; stands = begun-stands q.X q.there; left = q.there.left }
 
-  pub text_refused : (n p : ℕ) (w₂ : List ℕ) → LinesSay text w₁ items seen (stage.Refused n p) w₂ → TextMade text w items seen end (term-end.Refused n p) w₂
-  text_refused n p w₂ L = record {
+  pub text_refused : (e : Refusal) (w₂ : List ℕ) → LinesSay text w₁ items seen (Err e) w₂ → TextMade text w items seen end (Err e) w₂
+  text_refused e w₂ L = record {
     kept = far_then w w₁ w₂ begun-far L.kept;
-    says = λ X T. term_refused text w₂ X n p (main_of X) (main_of_is X ∙ bind_refused (lines_table X start X.lines) (λ σ. judged_from X 0 σ X.clauses >>= λ σ₁. main_made X σ₁) n p (refused_as text w₂ X n p (lines_table X start X.lines) (L.says X start X.lines (begun-stands X T) T.left)));
+    says = λ X T. term_refused text w₂ X e (main_of X) (main_of_is X ∙ bind_refused (lines_table X start X.lines) (λ σ. judged_from X 0 σ X.clauses >>= λ σ₁. main_made X σ₁) e (refused_as text w₂ X e (lines_table X start X.lines) (L.says X start X.lines (begun-stands X T) T.left)));
   }
 
-  module _ (w₂ : List ℕ) (L : LinesSay text w₁ items seen stage.Passed w₂) where
+  module _ (w₂ : List ℕ) (L : LinesSay text w₁ items seen (Ok tt) w₂) where
     pub text-can : CanText text w items seen end → CanEnd text w₂ end
     text-can q = passed-with text w₂ q.X (lines_table q.X start q.X.lines) (L.says q.X start q.X.lines (begun-stands q.X q.there) q.there.left) λ σ e S. record { X = q.X; σ = σ; stands = S; ends = q.there.ends }
 
-    pub text-made : (t : term.TermEnd) (w₃ : List ℕ) → BehindMade text w₂ end t w₃ → TextMade text w items seen end t w₃
+    pub text-made : (t : Result Sub Refusal) (w₃ : List ℕ) → BehindMade text w₂ end t w₃ → TextMade text w items seen end t w₃
     text-made t w₃ M = record {
       kept = far_then w w₁ w₃ begun-far (far_then w₁ w₂ w₃ L.kept M.kept);
       says = λ X T. passed-with text w₂ X (lines_table X start X.lines) (L.says X start X.lines (begun-stands X T) T.left) λ σ e S. subst (TextTerm text w₃ X t) (sym (main_of_is X ∙ bind_good (lines_table X start X.lines) (λ σ. judged_from X 0 σ X.clauses >>= λ σ₁. main_made X σ₁) σ e)) (M.says X σ S T.ends);

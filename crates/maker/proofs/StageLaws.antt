@@ -6,7 +6,10 @@ use native.Mathlib.Omega.{arith}
 use lib.ListN.{length, get_or}
 use lib.Seq.{sets, length-sets}
 use Rattle.laws.proofs.Regions.{sets_outside, sets-before, sets-at}
-use Rattle.calculus.specs.Answer.{Answer, good, refused, refuse}
+use Rattle.std.proofs.Common.{Ok, Err}
+use Rattle.answers.specs.declared.Refusal.{Refusal}
+use Rattle.answers.specs.Refusals.{said_why}
+use Rattle.calculus.specs.Answer.{Answer, good, refused}
 use Rattle.notation_calculus.specs.Trees.{Text}
 use Rattle.notation_calculus.specs.Making.{State}
 use Rattle.notation_calculus.specs.Make.{above}
@@ -19,8 +22,6 @@ use Rattle.scopes.proofs.EntryLaws.{frame_parts}
 use Rattle.scopes.proofs.KeepLaws.{rows-kept}
 use Rattle.walks.specs.Walked.{TypesWalked, TermsWalked}
 use Rattle.walks.proofs.Kept.{terms_of_types, frame_on_terms, walkable_on_terms}
-use Rattle.maker.specs.declared.Stage as code
-use Rattle.maker.specs.declared.Stage.TheVariants as stage
 use Rattle.maker.specs.Stages.{FarKept, TextStands, KnowsAbove, StageAnswers}
 
 -- ---- far away nothing is written
@@ -99,17 +100,17 @@ module _ (w : List ℕ) (seen : ℕ) (room : making_size ≤ length w) where
 
 -- ---- answers of stages
 
-pub stage_passed : (text w : List ℕ) (X : Text) (σ : State) (r : code.Stage) (a : Answer State) → r ≡ stage.Passed → a ≡ good σ → TextStands text w X σ → StageAnswers text w X r a
-stage_passed text w X σ r a e f S = subst (λ (q : code.Stage). StageAnswers text w X q a) (sym e) (subst (λ (q : Answer State). StageAnswers text w X stage.Passed q) (sym f) S)
+pub stage_passed : (text w : List ℕ) (X : Text) (σ : State) (a : Answer State) → a ≡ good σ → TextStands text w X σ → StageAnswers text w X (Ok tt) a
+stage_passed text w X σ a f S = subst (λ (q : Answer State). StageAnswers text w X (Ok tt) q) (sym f) S
 
-pub stage_refused : (text w : List ℕ) (X : Text) (n p : ℕ) (a : Answer State) → a ≡ refuse n p → StageAnswers text w X (stage.Refused n p) a
-stage_refused text w X n p a f = subst (λ (q : Answer State). StageAnswers text w X (stage.Refused n p) q) (sym f) refl
+pub stage_refused : (text w : List ℕ) (X : Text) (e : Refusal) (a : Answer State) → a ≡ refused (said_why e) → StageAnswers text w X (Err e) a
+stage_refused text w X e a f = subst (λ (q : Answer State). StageAnswers text w X (Err e) q) (sym f) refl
 
 -- .. taken apart
-pub passed-with : {P : Type 0} (text w : List ℕ) (X : Text) (a : Answer State) → StageAnswers text w X stage.Passed a → ((σ : State) → a ≡ good σ → TextStands text w X σ → P) → P
+pub passed-with : {P : Type 0} (text w : List ℕ) (X : Text) (a : Answer State) → StageAnswers text w X (Ok tt) a → ((σ : State) → a ≡ good σ → TextStands text w X σ → P) → P
 passed-with text w X (good σ) s k = k σ refl s
 passed-with text w X (refused why) s k = absurd s
 
-pub refused_as : (text w : List ℕ) (X : Text) (n p : ℕ) (a : Answer State) → StageAnswers text w X (stage.Refused n p) a → a ≡ refuse n p
-refused_as text w X n p (good σ) s = absurd s
-refused_as text w X n p (refused why) s = ap refused s
+pub refused_as : (text w : List ℕ) (X : Text) (e : Refusal) (a : Answer State) → StageAnswers text w X (Err e) a → a ≡ refused (said_why e)
+refused_as text w X e (good σ) s = absurd s
+refused_as text w X e (refused why) s = ap refused s

@@ -8,6 +8,10 @@ use native.Mathlib.Numerals.{add-one}
 use lib.Dec.{leb}
 use lib.ListN.{length, get_or, drop, length-set, drop_of_length-le}
 use lib.Seq.{sets, drop-cons, get_or-set_same, get_or-set_other}
+use Rattle.std.proofs.Common.{Result, Ok, Err}
+use Rattle.answers.specs.declared.Reason.{Reason}
+use Rattle.answers.specs.declared.Refusal.{Refusal}
+use Rattle.answers.specs.Refusals.{refusal_at}
 use Rattle.calculus.specs.Answer.{Answer, good, refused, refuse, ◌>>=◌, need}
 use Rattle.notation_calculus.specs.Trees.{Clause, Text}
 use Rattle.notation_calculus.specs.Making.{State, cost_of, most_puts, one_put}
@@ -22,8 +26,6 @@ use Rattle.clauses.specs.Texts.{HoldsClauses}
 use Rattle.scopes.specs.Puts.{row_cost, PutCounted}
 use Rattle.scopes.proofs.KeepLaws.{rows-kept}
 use Rattle.scopes.proofs.PutLaws.{cost_is}
-use Rattle.maker.specs.declared.Stage as code
-use Rattle.maker.specs.declared.Stage.TheVariants as stage
 use Rattle.maker.specs.Stages.{FarKept, TextStands, KnowsAbove, StageAnswers}
 use Rattle.maker.specs.Judged.{row_judged, BodyRead, CanTry, TryMade, TryAnswers, TrySays, TriedAs, TriedSays, HasClause, JudgeSays, SomeText, JudgedSay}
 use Rattle.maker.proofs.StageLaws.{far_none, far_then, framed_far, framed-knows, stage_passed, stage_refused, passed-with, refused_as}
@@ -52,18 +54,18 @@ forgot-stands text w₀ w w' X σ puts H M F = record {
       (F.holds M.next σ.table M.stands.state M.begins H.types.count (omega (arith, H.nodes, M.nodes))));
 }
 
-module _ (text w : List ℕ) (at : ℕ) (sort : Bool) (r : code.Stage) (w₁ : List ℕ) (T : TrySays text w at sort r w₁) where
-  pub tried_refused : (n p : ℕ) → r ≡ stage.Refused n p → TriedSays text w at sort (stage.Refused n p) w₁
-  tried_refused n p e = record { kept = T.kept; says = λ X seen σ b K B. subst (λ (q : code.Stage). TryAnswers text w₁ X σ q (judged_body X seen σ b)) e (T.says X seen σ b K B) }
+module _ (text w : List ℕ) (at : ℕ) (sort : Bool) (w₁ : List ℕ) where
+  pub tried_refused : (e : Refusal) → TrySays text w at sort (Err e) w₁ → TriedSays text w at sort (Err e) w₁
+  tried_refused e T = record { kept = T.kept; says = λ X seen σ b K B. T.says X seen σ b K B }
 
-  forgotten : (X : Text) (σ : State) (w₂ : List ℕ) (a : Answer ℕ) → HoldsState w σ → Forgot w₁ (get_or w type_count_at 0) (get_or w node_count_at 0) w₂ → TryAnswers text w₁ X σ stage.Passed a → TriedAs text w₂ X σ stage.Passed a
+  forgotten : (X : Text) (σ : State) (w₂ : List ℕ) (a : Answer ℕ) → HoldsState w σ → Forgot w₁ (get_or w type_count_at 0) (get_or w node_count_at 0) w₂ → TryAnswers text w₁ X σ (Ok tt) a → TriedAs text w₂ X σ (Ok tt) a
   forgotten X σ w₂ (good puts) H F M = forgot-stands text w w₁ w₂ X σ puts H M F
   forgotten X σ w₂ (refused why) H F M = M
 
-  pub tried_passed : r ≡ stage.Passed → (w₂ : List ℕ) → Forgot w₁ (get_or w type_count_at 0) (get_or w node_count_at 0) w₂ → TriedSays text w at sort stage.Passed w₂
-  tried_passed e w₂ F = record {
+  pub tried_passed : TrySays text w at sort (Ok tt) w₁ → (w₂ : List ℕ) → Forgot w₁ (get_or w type_count_at 0) (get_or w node_count_at 0) w₂ → TriedSays text w at sort (Ok tt) w₂
+  tried_passed T w₂ F = record {
     kept = far_then w w₁ w₂ T.kept (forgot_far w₁ (get_or w type_count_at 0) (get_or w node_count_at 0) w₂ F);
-    says = λ X seen σ b K B. forgotten X σ w₂ (judged_body X seen σ b) K.walkable.state F (subst (λ (q : code.Stage). TryAnswers text w₁ X σ q (judged_body X seen σ b)) e (T.says X seen σ b K B));
+    says = λ X seen σ b K B. forgotten X σ w₂ (judged_body X seen σ b) K.walkable.state F (T.says X seen σ b K B);
   }
 
 -- ---- one clause
@@ -101,10 +103,10 @@ module _ (text w : List ℕ) (k : ℕ) (q : HasClause text w k) (r : Row) (is : 
   judge-row = row_of q.X q.σ q.stands q.there
 
   module _ (j : Bool) (says : j ≡ row_judged text r) where
-    pub judge-skipped : j ≡ false → JudgeSays text w k stage.Passed w
+    pub judge-skipped : j ≡ false → JudgeSays text w k (Ok tt) w
     judge-skipped e = record {
       kept = far_none w;
-      says = λ X σ S h. stage_passed text w X σ stage.Passed (judged_clause X k σ (clause_of X.clauses k)) refl (clause_skipped X k σ (clause_of X.clauses k) (judged_is text (clause_of X.clauses k) r (row_of X σ S h) ∙ sym says ∙ e)) S;
+      says = λ X σ S h. stage_passed text w X σ (judged_clause X k σ (clause_of X.clauses k)) (clause_skipped X k σ (clause_of X.clauses k) (judged_is text (clause_of X.clauses k) r (row_of X σ S h) ∙ sym says ∙ e)) S;
     }
 
     module _ (yes' : j ≡ true) (cost : ℕ) (costs : cost ≡ row_cost text r) (w₁ : List ℕ) (b : Bool) (P : PutCounted w cost w₁ b) where
@@ -117,12 +119,12 @@ module _ (text w : List ℕ) (k : ℕ) (q : HasClause text w k) (r : Row) (is : 
       tried-is : (X : Text) (σ : State) (S : TextStands text w X σ) (h : k < length X.clauses) → judged_clause X k σ (clause_of X.clauses k) ≡ (one_put σ (cost_of (clause_of X.clauses k)) (clause_of X.clauses k).head.place >>= λ σ₁. judged_body X k σ₁ (clause_of X.clauses k).body >>= λ n. good (record { table = σ.table; nodes = σ.nodes; puts = n }))
       tried-is X σ S h = clause_tried X k σ (clause_of X.clauses k) (judged_is text (clause_of X.clauses k) r (row_of X σ S h) ∙ sym says ∙ yes')
 
-      pub judge-full : b ≡ false → JudgeSays text w k (stage.Refused 34 r.name) w₁
+      pub judge-full : b ≡ false → JudgeSays text w k (Err (refusal_at Reason.TextLimit r.name)) w₁
       judge-full e = record {
         kept = subst (λ (v : List ℕ). FarKept w v) (sym (P.same e)) (far_none w);
         says = λ X σ S h.
-            stage_refused text w₁ X 34 r.name (judged_clause X k σ (clause_of X.clauses k))
-            (tried-is X σ S h ∙ bind_refused (one_put σ (cost_of (clause_of X.clauses k)) (clause_of X.clauses k).head.place) (λ σ₁. judged_body X k σ₁ (clause_of X.clauses k).body >>= λ n. good (record { table = σ.table; nodes = σ.nodes; puts = n })) 34 r.name (put_bad σ (cost_of (clause_of X.clauses k)) (clause_of X.clauses k).head.place b (test_of X σ S h) e ∙ ap (λ (n : ℕ). refuse 34 n) (row_of X σ S h).name_place));
+            stage_refused text w₁ X (refusal_at Reason.TextLimit r.name) (judged_clause X k σ (clause_of X.clauses k))
+            (tried-is X σ S h ∙ bind_refused (one_put σ (cost_of (clause_of X.clauses k)) (clause_of X.clauses k).head.place) (λ σ₁. judged_body X k σ₁ (clause_of X.clauses k).body >>= λ n. good (record { table = σ.table; nodes = σ.nodes; puts = n })) (refusal_at Reason.TextLimit r.name) (put_bad σ (cost_of (clause_of X.clauses k)) (clause_of X.clauses k).head.place b (test_of X σ S h) e ∙ ap (λ (n : ℕ). refuse 34 n) (row_of X σ S h).name_place));
       }
 
       module _ (f : b ≡ true) where
@@ -164,17 +166,17 @@ module _ (text w : List ℕ) (k : ℕ) (q : HasClause text w k) (r : Row) (is : 
           pub judge-can : CanTry text w₂ r.body r.sort
           judge-can = record { X = q.X; seen = k; σ = counted_state q.σ cost; body = (clause_of q.X.clauses k).body; knows = knows q.X q.σ q.stands q.there; there = read_of q.X q.σ q.stands q.there }
 
-          as-stage : (X : Text) (σ : State) (w₃ : List ℕ) (s : code.Stage) (a : Answer ℕ) → TriedAs text w₃ X (counted_state σ cost) s a → StageAnswers text w₃ X s (a >>= λ n. good (record { table = σ.table; nodes = σ.nodes; puts = n }))
-          as-stage X σ w₃ stage.Passed (good n) t = t
-          as-stage X σ w₃ stage.Passed (refused why) t = t
-          as-stage X σ w₃ (stage.Refused n p) a t = stage_refused text w₃ X n p (a >>= λ n. good (record { table = σ.table; nodes = σ.nodes; puts = n })) (bind_refused a (λ n. good (record { table = σ.table; nodes = σ.nodes; puts = n })) n p t)
+          as-stage : (X : Text) (σ : State) (w₃ : List ℕ) (s : Result (Unit {0}) Refusal) (a : Answer ℕ) → TriedAs text w₃ X (counted_state σ cost) s a → StageAnswers text w₃ X s (a >>= λ n. good (record { table = σ.table; nodes = σ.nodes; puts = n }))
+          as-stage X σ w₃ (Ok done) (good n) t = t
+          as-stage X σ w₃ (Ok done) (refused why) t = t
+          as-stage X σ w₃ (Err e) a t = stage_refused text w₃ X e (a >>= λ n. good (record { table = σ.table; nodes = σ.nodes; puts = n })) (bind_refused a (λ n. good (record { table = σ.table; nodes = σ.nodes; puts = n })) e t)
 
           clause-is : (X : Text) (σ : State) (S : TextStands text w X σ) (h : k < length X.clauses) → judged_clause X k σ (clause_of X.clauses k) ≡ (judged_body X k (counted_state σ cost) (clause_of X.clauses k).body >>= λ n. good (record { table = σ.table; nodes = σ.nodes; puts = n }))
           clause-is X σ S h =
               tried-is X σ S h
               ∙ bind_good (one_put σ (cost_of (clause_of X.clauses k)) (clause_of X.clauses k).head.place) (λ σ₁. judged_body X k σ₁ (clause_of X.clauses k).body >>= λ n. good (record { table = σ.table; nodes = σ.nodes; puts = n })) (counted_state σ cost) (put_good σ (cost_of (clause_of X.clauses k)) (clause_of X.clauses k).head.place b (test_of X σ S h) f ∙ ap (λ (n : ℕ). good (counted_state σ n)) (cost-of X σ S h))
 
-          pub judge-says : (s : code.Stage) (w₃ : List ℕ) → TriedSays text w₂ r.body r.sort s w₃ → JudgeSays text w k s w₃
+          pub judge-says : (s : Result (Unit {0}) Refusal) (w₃ : List ℕ) → TriedSays text w₂ r.body r.sort s w₃ → JudgeSays text w k s w₃
           judge-says s w₃ T = record {
             kept = far_then w w₁ w₃ put-far (far_then w₁ w₂ w₃ (subst (λ (v : List ℕ). FarKept w₁ v) (sym known) (framed_far w₁ k judge-room)) T.kept);
             says = λ X σ S h. subst (StageAnswers text w₃ X s) (sym (clause-is X σ S h)) (as-stage X σ w₃ s (judged_body X k (counted_state σ cost) (clause_of X.clauses k).body) (T.says X k (counted_state σ cost) (clause_of X.clauses k).body (knows X σ S h) (read_of X σ S h)));
@@ -209,21 +211,21 @@ module _ (text w₀ : List ℕ) (q : SomeText text w₀) (n : ℕ) (counts : n �
     pub judged-can : HasClause text w k
     judged-can = record { X = q.X; σ = here.next; stands = here.stands; there = omega (arith, count-is q.X q.σ q.stands) }
 
-    module _ (r : code.Stage) (w' : List ℕ) (T : JudgeSays text w k r w') where
-      pub judged-kept : FarKept w₀ w'
-      judged-kept = far_then w₀ w w' G.kept T.kept
+    module _ (w' : List ℕ) where
+      pub judged-kept : {r : Result (Unit {0}) Refusal} → JudgeSays text w k r w' → FarKept w₀ w'
+      judged-kept T = far_then w₀ w w' G.kept T.kept
 
       first-is : (X : Text) (σ : State) (S : TextStands text w₀ X σ) → judged_from X 0 σ X.clauses ≡ (judged_clause X k (G.goes X σ S).next (clause_of X.clauses k) >>= λ τ. judged_from X (suc k) τ (drop (suc k) X.clauses))
       first-is X σ S = (G.goes X σ S).is ∙ ap (λ (cs : List Clause). judged_from X k (G.goes X σ S).next cs) (drop-cons X.clauses k no_clause (omega (arith, count-is X σ S)))
 
-      as-judged : (r' : code.Stage) → r ≡ r' → (X : Text) (σ : State) (S : TextStands text w₀ X σ) → StageAnswers text w' X r' (judged_clause X k (G.goes X σ S).next (clause_of X.clauses k))
-      as-judged r' e X σ S = subst (λ (x : code.Stage). StageAnswers text w' X x (judged_clause X k (G.goes X σ S).next (clause_of X.clauses k))) e (T.says X (G.goes X σ S).next (G.goes X σ S).stands (omega (arith, count-is X σ S)))
+      as-judged : {r : Result (Unit {0}) Refusal} → JudgeSays text w k r w' → (X : Text) (σ : State) (S : TextStands text w₀ X σ) → StageAnswers text w' X r (judged_clause X k (G.goes X σ S).next (clause_of X.clauses k))
+      as-judged T X σ S = T.says X (G.goes X σ S).next (G.goes X σ S).stands (omega (arith, count-is X σ S))
 
-      pub judged-more : r ≡ stage.Passed → JudgedGoing text w₀ w' (k + 1)
-      judged-more e = record {
-        kept = judged-kept;
+      pub judged-more : JudgeSays text w k (Ok tt) w' → JudgedGoing text w₀ w' (k + 1)
+      judged-more T = record {
+        kept = judged-kept T;
         goes = λ X σ S.
-            passed-with text w' X (judged_clause X k (G.goes X σ S).next (clause_of X.clauses k)) (as-judged stage.Passed e X σ S) λ τ f t. record {
+            passed-with text w' X (judged_clause X k (G.goes X σ S).next (clause_of X.clauses k)) (as-judged T X σ S) λ τ f t. record {
               next = τ;
               stands = t;
               low = omega (arith, count-is X σ S);
@@ -231,16 +233,16 @@ module _ (text w₀ : List ℕ) (q : SomeText text w₀) (n : ℕ) (counts : n �
             };
       }
 
-      pub judged-refused : (m p : ℕ) → r ≡ stage.Refused m p → JudgedSay text w₀ (stage.Refused m p) w'
-      judged-refused m p e = record {
-        kept = judged-kept;
-        says = λ X σ S. stage_refused text w' X m p (judged_from X 0 σ X.clauses) (first-is X σ S ∙ bind_refused (judged_clause X k (G.goes X σ S).next (clause_of X.clauses k)) (λ τ. judged_from X (suc k) τ (drop (suc k) X.clauses)) m p (refused_as text w' X m p (judged_clause X k (G.goes X σ S).next (clause_of X.clauses k)) (as-judged (stage.Refused m p) e X σ S)));
+      pub judged-refused : (e : Refusal) → JudgeSays text w k (Err e) w' → JudgedSay text w₀ (Err e) w'
+      judged-refused e T = record {
+        kept = judged-kept T;
+        says = λ X σ S. stage_refused text w' X e (judged_from X 0 σ X.clauses) (first-is X σ S ∙ bind_refused (judged_clause X k (G.goes X σ S).next (clause_of X.clauses k)) (λ τ. judged_from X (suc k) τ (drop (suc k) X.clauses)) e (refused_as text w' X e (judged_clause X k (G.goes X σ S).next (clause_of X.clauses k)) (as-judged T X σ S)));
       }
 
-  pub judged_done : n ≤ k → JudgedSay text w₀ stage.Passed w
+  pub judged_done : n ≤ k → JudgedSay text w₀ (Ok tt) w
   judged_done h = record {
     kept = G.kept;
     says = λ X σ S.
         let g = G.goes X σ S in
-        stage_passed text w X g.next stage.Passed (judged_from X 0 σ X.clauses) refl (g.is ∙ ap (λ (cs : List Clause). judged_from X k g.next cs) (drop_of_length-le X.clauses {i = k} (omega (arith, count-is X σ S)))) g.stands;
+        stage_passed text w X g.next (judged_from X 0 σ X.clauses) (g.is ∙ ap (λ (cs : List Clause). judged_from X k g.next cs) (drop_of_length-le X.clauses {i = k} (omega (arith, count-is X σ S)))) g.stands;
   }

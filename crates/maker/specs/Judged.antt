@@ -1,6 +1,8 @@
 -- What judging the definitions finds, answers and leaves. Assumes nothing.
-use Rattle.std.specs.Prelude.{ℕ, ◌≤◌, ◌<◌, ◌≡◌, Bool, not, ◌&&◌, List, eqb, length}
-use Rattle.calculus.specs.Answer.{Answer, good, refused, refuse}
+use Rattle.std.specs.Prelude.{ℕ, ◌≤◌, ◌<◌, ◌≡◌, Bool, not, ◌&&◌, List, Result, Ok, Err, eqb, length}
+use Rattle.answers.specs.declared.Refusal.{Refusal}
+use Rattle.answers.specs.Refusals.{said_why}
+use Rattle.calculus.specs.Answer.{Answer, good, refused}
 use Rattle.notation_calculus.specs.Words.{same_name}
 use Rattle.notation_calculus.specs.Trees.{Body, Text}
 use Rattle.notation_calculus.specs.Making.{State}
@@ -11,8 +13,6 @@ use Rattle.made_types.specs.States.{Beginning}
 use Rattle.clauses.specs.declared.rows.Row.{Row}
 use Rattle.clauses.specs.Rows.{body_at, clause_of}
 use Rattle.notation_calculus.specs.Grammar.{got}
-use Rattle.maker.specs.declared.Stage as code
-use Rattle.maker.specs.declared.Stage.TheVariants as stage
 use Rattle.maker.specs.Stages.{FarKept, TextStands, KnowsAbove, StageAnswers}
 
 -- a clause's row has no parameters, and it is not the term `main`
@@ -41,22 +41,22 @@ pub record TryMade (text w : List ℕ) (X : Text) (σ : State) (puts : ℕ) : Ty
   pub nodes : σ.nodes ≤ next.nodes
   pub cost : next.puts ≡ puts
 
-abbrev pub TryAnswers : List ℕ → List ℕ → Text → State → code.Stage → Answer ℕ → Type 0
-TryAnswers text w X σ stage.Passed (good puts) = TryMade text w X σ puts
-TryAnswers text w X σ stage.Passed (refused why) = ⊥
-TryAnswers text w X σ (stage.Refused number place) a = a ≡ refuse number place
+abbrev pub TryAnswers : List ℕ → List ℕ → Text → State → Result (Unit {0}) Refusal → Answer ℕ → Type 0
+TryAnswers text w X σ (Ok done) (good puts) = TryMade text w X σ puts
+TryAnswers text w X σ (Ok done) (refused why) = ⊥
+TryAnswers text w X σ (Err e) a = a ≡ refused (said_why e)
 
-pub record TrySays (text w : List ℕ) (at : ℕ) (sort : Bool) (r : code.Stage) (w' : List ℕ) : Type 0 where
+pub record TrySays (text w : List ℕ) (at : ℕ) (sort : Bool) (r : Result (Unit {0}) Refusal) (w' : List ℕ) : Type 0 where
   pub kept : FarKept w w'
   pub says : (X : Text) (seen : ℕ) (σ : State) (b : Body) → KnowsAbove text w X seen σ → BodyRead text at sort b → TryAnswers text w' X σ r (judged_body X seen σ b)
 
 -- .. and is forgotten
-abbrev pub TriedAs : List ℕ → List ℕ → Text → State → code.Stage → Answer ℕ → Type 0
-TriedAs text w X σ stage.Passed (good puts) = TextStands text w X (record { table = σ.table; nodes = σ.nodes; puts = puts })
-TriedAs text w X σ stage.Passed (refused why) = ⊥
-TriedAs text w X σ (stage.Refused number place) a = a ≡ refuse number place
+abbrev pub TriedAs : List ℕ → List ℕ → Text → State → Result (Unit {0}) Refusal → Answer ℕ → Type 0
+TriedAs text w X σ (Ok done) (good puts) = TextStands text w X (record { table = σ.table; nodes = σ.nodes; puts = puts })
+TriedAs text w X σ (Ok done) (refused why) = ⊥
+TriedAs text w X σ (Err e) a = a ≡ refused (said_why e)
 
-pub record TriedSays (text w : List ℕ) (at : ℕ) (sort : Bool) (r : code.Stage) (w' : List ℕ) : Type 0 where
+pub record TriedSays (text w : List ℕ) (at : ℕ) (sort : Bool) (r : Result (Unit {0}) Refusal) (w' : List ℕ) : Type 0 where
   pub kept : FarKept w w'
   pub says : (X : Text) (seen : ℕ) (σ : State) (b : Body) → KnowsAbove text w X seen σ → BodyRead text at sort b → TriedAs text w' X σ r (judged_body X seen σ b)
 
@@ -67,7 +67,7 @@ pub record HasClause (text w : List ℕ) (k : ℕ) : Type 0 where
   pub stands : TextStands text w X σ
   pub there : k < length X.clauses
 
-pub record JudgeSays (text w : List ℕ) (k : ℕ) (r : code.Stage) (w' : List ℕ) : Type 0 where
+pub record JudgeSays (text w : List ℕ) (k : ℕ) (r : Result (Unit {0}) Refusal) (w' : List ℕ) : Type 0 where
   pub kept : FarKept w w'
   pub says : (X : Text) (σ : State) → TextStands text w X σ → k < length X.clauses → StageAnswers text w' X r (judged_clause X k σ (clause_of X.clauses k))
 
@@ -77,6 +77,6 @@ pub record SomeText (text w : List ℕ) : Type 0 where
   pub σ : State
   pub stands : TextStands text w X σ
 
-pub record JudgedSay (text w : List ℕ) (r : code.Stage) (w' : List ℕ) : Type 0 where
+pub record JudgedSay (text w : List ℕ) (r : Result (Unit {0}) Refusal) (w' : List ℕ) : Type 0 where
   pub kept : FarKept w w'
   pub says : (X : Text) (σ : State) → TextStands text w X σ → StageAnswers text w' X r (judged_from X 0 σ X.clauses)

@@ -1,6 +1,8 @@
 -- What the pass over the lines `table` finds, answers and leaves. Assumes nothing.
-use Rattle.std.specs.Prelude.{ℕ, ◌≤◌, ◌<◌, ◌≡◌, false, List, [], ◌++◌, length}
-use Rattle.calculus.specs.Answer.{Answer, good, refuse}
+use Rattle.std.specs.Prelude.{ℕ, ◌≤◌, ◌<◌, ◌≡◌, false, List, [], ◌++◌, Option, Some, None, Result, Ok, Err, length}
+use Rattle.answers.specs.declared.Refusal.{Refusal}
+use Rattle.answers.specs.Refusals.{said_why}
+use Rattle.calculus.specs.Answer.{Answer, good, refused}
 use Rattle.notation_calculus.specs.Words.{Word}
 use Rattle.notation_calculus.specs.Trees.{TypeTree, Line, Text}
 use Rattle.notation_calculus.specs.Grammar.{most_nested, Got, got, list_from, type_at, Items, lines_of, items_from}
@@ -10,9 +12,7 @@ use Rattle.words.specs.Lexed.{from, Lexed}
 use Rattle.walks.specs.Says.{Offset}
 use Rattle.maker.specs.declared.lines.Typed as typed
 use Rattle.maker.specs.declared.lines.Typed.TheVariants as typed-is
-use Rattle.maker.specs.declared.lines.Went as went
-use Rattle.maker.specs.declared.lines.Went.TheVariants as went-is
-use Rattle.maker.specs.declared.Stage as stage
+use Rattle.maker.specs.declared.lines.Went.{Went}
 use Rattle.maker.specs.Stages.{FarKept, TextStands, KnowsAbove, StageAnswers}
 
 -- ---- one line
@@ -52,12 +52,12 @@ pub record LineDone (text w : List ℕ) (X : Text) (seen : ℕ) (σ : State) (ts
   pub table : lines_table X σ (lines_of seen ts) ≡ good next
   pub fewer : length (from text end) ≤ b
 
-abbrev pub TypedAs : List ℕ → List ℕ → Text → ℕ → State → List TypeTree → List Word → ℕ → typed.Typed → Type 0
-TypedAs text w X seen σ ts us b (typed-is.More at) = LineOn text w X seen σ ts us b at
-TypedAs text w X seen σ ts us b (typed-is.Last end) = LineDone text w X seen σ ts us b end
-TypedAs text w X seen σ ts us b (typed-is.Refused number place) = lines_table X σ (lines_of seen ts) ≡ refuse number place
+abbrev pub TypedAs : List ℕ → List ℕ → Text → ℕ → State → List TypeTree → List Word → ℕ → Result typed.Typed Refusal → Type 0
+TypedAs text w X seen σ ts us b (Ok (typed-is.More at)) = LineOn text w X seen σ ts us b at
+TypedAs text w X seen σ ts us b (Ok (typed-is.Last end)) = LineDone text w X seen σ ts us b end
+TypedAs text w X seen σ ts us b (Err e) = lines_table X σ (lines_of seen ts) ≡ refused (said_why e)
 
-pub record TypedSays (text w : List ℕ) (at : ℕ) (r : typed.Typed) (w' : List ℕ) : Type 0 where
+pub record TypedSays (text w : List ℕ) (at : ℕ) (r : Result typed.Typed Refusal) (w' : List ℕ) : Type 0 where
   pub kept : FarKept w w'
   pub says : (X : Text) (seen : ℕ) (σ : State) (ts : List TypeTree) (us : List Word) → KnowsAbove text w X seen σ → LineThere text at ts us → TypedAs text w' X seen σ ts us (length (from text at)) r
 
@@ -81,10 +81,9 @@ pub record LineMade (text w : List ℕ) (X : Text) (seen : ℕ) (σ : State) (ts
   pub fewer : length (from text end) ≤ b
   pub same : known ≡ seen
 
-abbrev pub LineAs : List ℕ → List ℕ → Text → ℕ → State → List TypeTree → List Word → ℕ → went.Went → Type 0
-LineAs text w X seen σ ts us b (went-is.On end known) = LineMade text w X seen σ ts us b end known
-LineAs text w X seen σ ts us b went-is.Ends = ⊥
-LineAs text w X seen σ ts us b (went-is.Refused number place) = lines_table X σ (lines_of seen ts) ≡ refuse number place
+abbrev pub LineAs : List ℕ → List ℕ → Text → ℕ → State → List TypeTree → List Word → ℕ → Result Went Refusal → Type 0
+LineAs text w X seen σ ts us b (Ok past) = LineMade text w X seen σ ts us b past.at past.seen
+LineAs text w X seen σ ts us b (Err e) = lines_table X σ (lines_of seen ts) ≡ refused (said_why e)
 
 pub record CanTypes (text w : List ℕ) (at seen : ℕ) : Type 0 where
   pub X : Text
@@ -94,11 +93,11 @@ pub record CanTypes (text w : List ℕ) (at seen : ℕ) : Type 0 where
   pub knows : KnowsAbove text w X seen σ
   pub there : LineThere text at ts us
 
-pub record LineTypes (text w : List ℕ) (at seen : ℕ) (r : went.Went) (w' : List ℕ) : Type 0 where
+pub record LineTypes (text w : List ℕ) (at seen : ℕ) (r : Result Went Refusal) (w' : List ℕ) : Type 0 where
   pub kept : FarKept w w'
   pub says : (X : Text) (σ : State) (ts : List TypeTree) (us : List Word) → KnowsAbove text w X seen σ → LineThere text at ts us → LineAs text w' X seen σ ts us (length (from text at)) r
 
-pub record LineSays (text w : List ℕ) (at seen : ℕ) (r : went.Went) (w' : List ℕ) : Type 0 where
+pub record LineSays (text w : List ℕ) (at seen : ℕ) (r : Result Went Refusal) (w' : List ℕ) : Type 0 where
   pub kept : FarKept w w'
   pub says : (X : Text) (σ : State) (ts : List TypeTree) (us : List Word) → TextStands text w X σ → seen ≤ length X.clauses → LineThere text at ts us → LineAs text w' X seen σ ts us (length (from text at)) r
 
@@ -128,16 +127,16 @@ pub record ItemOn (text w : List ℕ) (X : Text) (σ : State) (ls : List Line) (
   pub table : lines_table X σ ls ≡ lines_table X next others
   pub fewer : length (from text at) < b
 
-abbrev pub ItemAs : List ℕ → List ℕ → Text → State → List Line → ℕ → went.Went → Type 0
-ItemAs text w X σ ls b (went-is.On at seen) = ItemOn text w X σ ls b at seen
-ItemAs text w X σ ls b went-is.Ends = (TextStands text w X σ) × (ls ≡ [])
-ItemAs text w X σ ls b (went-is.Refused number place) = lines_table X σ ls ≡ refuse number place
+abbrev pub ItemAs : List ℕ → List ℕ → Text → State → List Line → ℕ → Result (Option Went) Refusal → Type 0
+ItemAs text w X σ ls b (Ok (Some past)) = ItemOn text w X σ ls b past.at past.seen
+ItemAs text w X σ ls b (Ok None) = (TextStands text w X σ) × (ls ≡ [])
+ItemAs text w X σ ls b (Err e) = lines_table X σ ls ≡ refused (said_why e)
 
-pub record ItemSays (text w : List ℕ) (at seen : ℕ) (r : went.Went) (w' : List ℕ) : Type 0 where
+pub record ItemSays (text w : List ℕ) (at seen : ℕ) (r : Result (Option Went) Refusal) (w' : List ℕ) : Type 0 where
   pub kept : FarKept w w'
   pub says : (X : Text) (σ : State) (ls : List Line) → TextStands text w X σ → ItemsLeft text X at seen ls → ItemAs text w' X σ ls (length (from text at)) r
 
 -- all lines of a text whose items go on at an offset, above which so many clauses stand
-pub record LinesSay (text w : List ℕ) (at seen : ℕ) (r : stage.Stage) (w' : List ℕ) : Type 0 where
+pub record LinesSay (text w : List ℕ) (at seen : ℕ) (r : Result (Unit {0}) Refusal) (w' : List ℕ) : Type 0 where
   pub kept : FarKept w w'
   pub says : (X : Text) (σ : State) (ls : List Line) → TextStands text w X σ → ItemsLeft text X at seen ls → StageAnswers text w' X r (lines_table X σ ls)

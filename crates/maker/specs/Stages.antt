@@ -1,6 +1,8 @@
 -- What the stages of the call find in the working memory, answer and leave. Assumes nothing.
-use Rattle.std.specs.Prelude.{ℕ, ◌≤◌, ◌≡◌, List, length, get_or}
-use Rattle.calculus.specs.Answer.{Answer, good, refused, numbered}
+use Rattle.std.specs.Prelude.{ℕ, ◌≤◌, ◌≡◌, List, Result, Ok, Err, length, get_or}
+use Rattle.answers.specs.declared.Refusal.{Refusal}
+use Rattle.answers.specs.Refusals.{said_why}
+use Rattle.calculus.specs.Answer.{Answer, good, refused}
 use Rattle.notation_calculus.specs.Trees.{Text}
 use Rattle.notation_calculus.specs.Making.{State}
 use Rattle.notation_calculus.specs.Make.{above}
@@ -9,8 +11,6 @@ use Rattle.made_types.specs.Held.{HoldsState}
 use Rattle.clauses.specs.Texts.{HoldsClauses}
 use Rattle.scopes.specs.Frames.{frame_in}
 use Rattle.walks.specs.Walkable.{Walkable}
-use Rattle.maker.specs.declared.Stage as code
-use Rattle.maker.specs.declared.Stage.TheVariants as stage
 
 -- nothing is written behind what the call clears
 pub record FarKept (w w' : List ℕ) : Type 0 where
@@ -30,8 +30,8 @@ pub record KnowsAbove (text w : List ℕ) (X : Text) (seen : ℕ) (σ : State) :
   pub variables : (frame_in w 81).variables ≡ 0
 
 -- a stage passes and leaves the state, or it refuses, as the definition says
-abbrev pub StageAnswers : List ℕ → List ℕ → Text → code.Stage → Answer State → Type 0
-StageAnswers text w X stage.Passed (good σ) = TextStands text w X σ
-StageAnswers text w X stage.Passed (refused why) = ⊥
-StageAnswers text w X (stage.Refused number place) (good σ) = ⊥
-StageAnswers text w X (stage.Refused number place) (refused why) = why ≡ numbered number place
+abbrev pub StageAnswers : List ℕ → List ℕ → Text → Result (Unit {0}) Refusal → Answer State → Type 0
+StageAnswers text w X (Ok done) (good σ) = TextStands text w X σ
+StageAnswers text w X (Ok done) (refused why) = ⊥
+StageAnswers text w X (Err e) (good σ) = ⊥
+StageAnswers text w X (Err e) (refused why) = why ≡ said_why e

@@ -20,7 +20,7 @@ fn own_elements(s: &[u8], sizes: &[u8], node: Node) -> usize
         Rule::Constant => 1,
         _ => {
             if node.subterms == 1 {
-                return records::wide(sizes[records::wide(records::bound_by(s, node))]);
+                return usize::from(sizes[usize::from(records::bound_by(s, node))]);
             }
             0
         }
@@ -32,10 +32,8 @@ fn name_own(work: &mut [u16], to: usize, count: usize, node: u16)
     requires { to + count ≤ length work.old }
     ensures { work.new ≡ sets work.old to (replicate count node) }
 {
-    let mut i: usize = 0;
-    while i < count {
+    for i in 0..count {
         work[to + i] = node;
-        i = i + 1;
     }
 }
 
@@ -47,13 +45,11 @@ pub fn name(s: &[u8], sizes: &[u8], work: &mut [u16], from: usize, nodes: usize)
 {
     let mut at = from;
     let mut to = MAKERS;
-    let mut k: usize = 0;
-    while k < nodes {
+    for k in 0..nodes {
         let node = records::node_at(s, at);
         at = node.next;
         let count = own_elements(s, sizes, node);
         name_own(work, to, count, k as u16);
         to = to + count;
-        k = k + 1;
     }
 }

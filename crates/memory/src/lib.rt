@@ -39,9 +39,5 @@ pub fn clear(work: &mut [u16])
     requires { memory_size ≤ length work.old }
     ensures { work.new ≡ zeroed memory_size work.old }
 {
-    let mut i: usize = 0;
-    while i < SIZE {
-        work[i] = 0;
-        i = i + 1;
-    }
+    work[..SIZE].fill(0);
 }

@@ -1,3 +1,3 @@
 pub mod Room
-pub mod KnownPart
 pub mod Determined
+pub mod Steps

@@ -1,26 +1,33 @@
 -- The records of the code as those of the definitions (document 02, L8). Assumes nothing.
-use Rattle.std.specs.Prelude.{ℕ, ◌+◌, ◌≡◌, List}
-use Rattle.calculus.specs.Net.{point, part, wire_of, element, wire, pin}
-use Rattle.calculus.specs.NetRead.{item_size, Front, item, ended, broken, item_at}
+use Rattle.std.specs.Prelude.{ℕ, ◌+◌, Option, Some, None, Result, Ok, Err}
+use Rattle.calculus.specs.Answer.{Answer, good, refused, refuse}
+use Rattle.calculus.specs.Net.{point, part, wire_of, Item, element, wire, pin}
+use Rattle.calculus.specs.NetRead.{item_size, Front, item, ended, broken}
+use Rattle.answers.specs.Refusals.{said_why}
+use Rattle.answers.specs.declared.Refusal.{Refusal}
 use Rattle.net_reader.specs.declared.Record.{Record}
 use Rattle.net_reader.specs.declared.Record.TheVariants as rec
 use Rattle.net_reader.specs.declared.Step.{Step}
 
-abbrev pub said_record : Record → Front
-said_record (rec.Point i) = item (element (point i))
-said_record (rec.Part p first) = item (element (part p first))
-said_record (rec.Wire from to) = item (wire (wire_of from to))
-said_record (rec.Pin t) = item (pin t)
-said_record rec.End = ended
-said_record rec.Broken = broken
+abbrev pub said_record : Record → Item
+said_record (rec.Point i) = element (point i)
+said_record (rec.Part p first) = element (part p first)
+said_record (rec.Wire from to) = wire (wire_of from to)
+said_record (rec.Pin t) = pin t
 
--- the bytes of a record; none where there is no record
-abbrev pub front_size : Front → ℕ
-front_size (item r) = item_size r
-front_size ended = 0
-front_size broken = 0
+-- a record, or no record
+abbrev pub said_front : Option Record → Front
+said_front (Some r) = item (said_record r)
+said_front None = broken
 
--- a step hands out the record at an offset, and the offset past it
-pub record SaidStep (x : Step) (s : List ℕ) (at : ℕ) : Type 0 where
-  pub found_is : said_record x.found ≡ item_at s at
-  pub past_is : x.past ≡ at + front_size (item_at s at)
+-- a step as the definitions have it: what stands at an offset and the offset past it, nothing at the end, or refusal 21 at the offset
+abbrev pub stepped : Front → ℕ → Answer (Option (Item × ℕ))
+stepped (item r) at = good (Some (r, at + item_size r))
+stepped ended at = good None
+stepped broken at = refuse 21 at
+
+-- .. and as the code has it
+abbrev pub said_step : Result (Option Step) Refusal → Answer (Option (Item × ℕ))
+said_step (Ok (Some x)) = good (Some (said_record x.found, x.past))
+said_step (Ok None) = good None
+said_step (Err e) = refused (said_why e)

@@ -8,7 +8,7 @@ use native.Mathlib.Numerals.{add-one}
 use lib.ListN.{length, get_or, drop, length-drop, length-map}
 use lib.Seq.{take-suc, get_or-drop}
 use Rattle.laws.proofs.Regions.{region-length, region-at}
-use Rattle.calculus.specs.Net.{element_bytes, wire_bytes, pin_bytes, net_bytes}
+use Rattle.calculus.specs.Net.{wire_bytes, pin_bytes, net_bytes}
 use Rattle.calculus.specs.Makers.{written}
 use Rattle.calculus.specs.Record.{All}
 use Rattle.calculus.specs.Inputs.{targets}
@@ -20,7 +20,7 @@ use Rattle.memory.specs.Map.{targets_at, elements_at, stack_at, makers_at, regio
 use Rattle.calculus.specs.NetRead.{Known}
 use Rattle.netlist.specs.Elements.{after, after_all, element_size, node_size, element_records}
 use Rattle.netlist.proofs.Records.{wires_append, pins_append, net-length}
-use Rattle.netlist.proofs.Elements.{first_bytes, first_after, bytes-more, length_more, after_one, bytes-within, after-within, kinds-tiled, kinds-known, kinds-length, first_records, records-first, records-more}
+use Rattle.netlist.proofs.Elements.{first_bytes, first_after, length_more, after_one, bytes-within, after-within, kinds-tiled, kinds-known, kinds-length, first_records, records-first, records-more}
 use Rattle.netlist.proofs.Targets.{target-counted}
 
 pub wires_count : (w is : List ℕ) → length (wires_from w is) ≡ length is
@@ -36,9 +36,6 @@ wires_from-append w (i ∷ is) js = rw (wires_from-append w is js)
 module _ (w : List ℕ) (a i : ℕ) (h : a + i < length w) where
   here : i < length (drop a w)
   here = rw length-drop (omega arith)
-
-  pub element_more : first_bytes (drop a w) (i + 1) ≡ first_bytes (drop a w) i ++ element_bytes (elements_from (get_or w (a + i) 0 ∷ []) (first_after (drop a w) i))
-  element_more = rw (← get_or-drop a w i 0) (bytes-more (drop a w) i here)
 
   pub element_length : length (first_bytes (drop a w) (i + 1)) ≡ length (first_bytes (drop a w) i) + element_size (get_or w (a + i) 0)
   element_length = rw (← get_or-drop a w i 0) (length_more (drop a w) i here)

@@ -12,14 +12,14 @@ ghost use Rattle.netlist.specs.Elements.{output_of, after, element_size, node_si
 ghost use Rattle.netlist.specs.Fitting.{ElementsFit, WiresFit, PinsFit, Writable};
 
 // An input terminal, and an output terminal, by its number.
-#[derive(Clone, Copy)]
+#[derive(Clone, Copy, Debug, PartialEq, Eq)]
 pub struct In(pub u16);
 
-#[derive(Clone, Copy)]
+#[derive(Clone, Copy, Debug, PartialEq, Eq)]
 pub struct Out(pub u16);
 
 // A terminal of an interface.
-#[derive(Clone, Copy)]
+#[derive(Clone, Copy, Debug, PartialEq, Eq)]
 pub enum Terminal {
     Input(In),
     Output(Out),
@@ -61,8 +61,9 @@ pub fn put_two(out: &mut [u8], at: usize, n: u16) -> usize
     requires { at + 2 ≤ length out.old }
     ensures { (result ≡ at + 2) × (out.new ≡ sets out.old at (two n)) }
 {
-    out[at] = (n % 256) as u8;
-    out[at + 1] = (n / 256) as u8;
+    let [low, high] = n.to_le_bytes();
+    out[at] = low;
+    out[at + 1] = high;
     at + 2
 }
 
@@ -179,10 +180,8 @@ pub fn full_length(work: &[u16], elements: usize, wires: usize, pins: usize, pla
     ensures { result ≡ length (written plain (net_in work.now elements wires pins) (region work.now makers_at elements)) }
 {
     let mut sum = 5 * wires + 3 * pins;
-    let mut i: usize = 0;
-    while i < elements {
-        sum = sum + size_of(work[memory::ELEMENTS + i]);
-        i = i + 1;
+    for i in 0..elements {
+        sum += size_of(work[memory::ELEMENTS + i]);
     }
     sum + node_size(elements, plain)
 }
@@ -234,13 +233,11 @@ fn put_elements(work: &[u16], elements: usize, out: &mut [u8], from: usize, plai
 {
     let mut at = from;
     let mut n: u16 = 0;
-    let mut i: usize = 0;
-    while i < elements {
+    for i in 0..elements {
         let kind = work[memory::ELEMENTS + i];
         let node = work[memory::MAKERS + i];
         at = put_element(out, at, kind, n, node, plain);
         n = next_after(kind, n);
-        i = i + 1;
     }
     at
 }
@@ -265,12 +262,10 @@ fn put_wires(work: &[u16], wires: usize, out: &mut [u8], from: usize) -> usize
         × (out.new ≡ sets out.old from (wire_bytes (wires_from work.now (region work.now targets_at wires)))) }
 {
     let mut at = from;
-    let mut i: usize = 0;
-    while i < wires {
+    for i in 0..wires {
         let to = work[memory::TARGETS + i];
         let driver = work[memory::DRIVERS + to as usize];
         at = put_wire(out, at, Out(driver), In(to));
-        i = i + 1;
     }
     at
 }
@@ -282,10 +277,8 @@ fn put_pins(work: &[u16], pins: usize, out: &mut [u8], from: usize) -> usize
         × (out.new ≡ sets out.old from (pin_bytes (map terminal_of (region work.now stack_at pins)))) }
 {
     let mut at = from;
-    let mut i: usize = 0;
-    while i < pins {
+    for i in 0..pins {
         at = put_pin(out, at, terminal_of(work[memory::STACK + i]));
-        i = i + 1;
     }
     at
 }

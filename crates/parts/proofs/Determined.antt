@@ -6,8 +6,8 @@ use mathlib.Core.List.{List}
 use native.Mathlib.Omega.{arith}
 use Rattle.calculus.specs.Types.{Ty, bit, prod, arrow, lolli, size}
 use Rattle.parts.specs.declared.Part.{Part}
-use Rattle.parts.specs.declared.Named.{Named}
-use Rattle.parts.specs.declared.Named.TheVariants as of
+use Rattle.std.specs.declared.option.Option.{Option}
+use Rattle.std.specs.declared.option.Option.TheVariants.{Some, None}
 use Rattle.parts.specs.declared.Name.{Name}
 use Rattle.parts.specs.Table.{PartEntry, said_part, said_named, shape_ty, later_ty}
 use Rattle.laws.proofs.OneResult.{Result}
@@ -53,11 +53,11 @@ same-part x y h =
     ap (λ (i : ℕ). part i x.outputs x.shape x.paired) a ∙ ap (λ (o : ℕ). part y.inputs o x.shape x.paired) b
     ∙ ap (λ (n : ℕ). part y.inputs y.outputs n x.paired) c ∙ ap (part y.inputs y.outputs y.shape) e
 
-same-named : (r q : Named) → said_named r ≡ said_named q → r ≡ q
-same-named (of.Part x) (of.Part y) e = let h : said_part x ≡ said_part y = cc in ap (λ (z : Part). of.Part z) (same-part x y h)
-same-named (of.Part x) of.Unknown e = absurd (let z : ◌≡◌ {A = ℕ} 0 1 = cc in omega arith)
-same-named of.Unknown (of.Part y) e = absurd (let z : ◌≡◌ {A = ℕ} 0 1 = cc in omega arith)
-same-named of.Unknown of.Unknown e = refl
+same-named : (r q : Option Part) → said_named r ≡ said_named q → r ≡ q
+same-named (Some x) (Some y) e = let h : said_part x ≡ said_part y = cc in ap (λ (z : Part). Some z) (same-part x y h)
+same-named (Some x) None e = absurd (let z : ◌≡◌ {A = ℕ} 0 1 = cc in omega arith)
+same-named None (Some y) e = absurd (let z : ◌≡◌ {A = ℕ} 0 1 = cc in omega arith)
+same-named None None e = refl
 
 pub part-at_determined : Result part_at.ps part_at.r part-at-reads.Post
 part-at_determined κs a x y s t f g = same-named x y (f ∙ sym g)

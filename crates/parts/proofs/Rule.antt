@@ -13,9 +13,10 @@ use Rattle.calculus.specs.Listing.{names}
 use Rattle.laws.proofs.Tests.{and_both}
 use Rattle.laws.proofs.Below.{below}
 use Rattle.sheet_theorems.proofs.Sound.{ty_eq→eq}
+use Rattle.std.specs.declared.option.Option.TheVariants.{Some, None}
 use Rattle.parts.specs.declared.Part.{Part}
 use Rattle.parts.specs.declared.Name.{Name}
-use Rattle.parts.specs.Table.{PartEntry, is_part, no_part, said_part, entry_of, named, name_at, padded, shape_ty}
+use Rattle.parts.specs.Table.{PartEntry, said_part, entry_of, named, name_at, padded, shape_ty}
 
 abbrev entry_row : ℕ → ℕ → ℕ → Bool → Part
 entry_row i o k b = record { inputs = i; outputs = o; shape = k; paired = b }
@@ -60,11 +61,11 @@ right p h = same-entry _ _ _ _ _ _ _ _ (below 7 (λ k. entry_eq (said_part (row_
 pub right-past : (p : ℕ) → 7 ≤ p → said_part (row_at 0) ≡ entry_of p
 right-past p h = rw (get_or-eq_default parts (part_at 0) {n = p} h)
 
-pub named-part : (p : ℕ) → p < 7 → is_part (said_part (row_at p)) ≡ named p
+pub named-part : (p : ℕ) → p < 7 → Some (said_part (row_at p)) ≡ named p
 unfolding named
 named-part p h = rw (lt-ltb p 7 h, right p h)
 
-pub named_none : (p : ℕ) → 7 ≤ p → no_part ≡ named p
+pub named_none : (p : ℕ) → 7 ≤ p → None ≡ named p
 unfolding named
 named_none p h = rw (le-ltb p 7 h)
 

@@ -6,7 +6,8 @@ ghost use Rattle.parts.specs.Table.{said_part, entry_of, said_named, named, name
 
 // A part: its inputs, its outputs and the shape of its type, as the number of arrows from the single bit: 0 is the bit itself,
 // 1 reg's type, 2 the arrow from the bit to reg's type; and if it takes a pair of single bits to one in the second edition.
-#[derive(Clone, Copy)]
+// The shape is a number since the definitions count arrows: an enum would be translated to that number in each contract.
+#[derive(Clone, Copy, Debug, PartialEq, Eq)]
 pub struct Part {
     pub inputs: u8,
     pub outputs: u8,
@@ -14,21 +15,15 @@ pub struct Part {
     pub paired: bool,
 }
 
-// What a part number names.
-#[derive(Clone, Copy)]
-pub enum Named {
-    Part(Part),
-    Unknown,
-}
-
 // A name: its letters, zeros behind them, and how many there are.
-#[derive(Clone, Copy)]
+#[derive(Clone, Copy, Debug, PartialEq, Eq)]
 pub struct Name {
     pub letters: [u8; 4],
     pub count: u8,
 }
 
-// The numbers of the parts: the rows of the table, by name.
+// The numbers of the parts: the rows of the table, by name. Numbers and no enum: they are bytes of a sheet, and the working memory holds
+// them in u16.
 pub const ZERO: u16 = 0;
 
 pub const REG: u16 = 1;
@@ -95,7 +90,8 @@ const PARTS: [Part; 7] = [
     },
 ];
 
-// The names beside them: an enum holds no array, and who looks up a part wants no name on its stack.
+// The names beside them: who looks up a part wants no name on its stack. Four letters by value and their count:
+// a table of slices would be no plainer for the one caller, which copies the letters.
 const NAMES: [Name; 7] = [
     Name {
         letters: [b'z', b'e', b'r', b'o'],
@@ -127,15 +123,16 @@ const NAMES: [Name; 7] = [
     },
 ];
 
-pub fn part_at(p: u8) -> Named
+// The part that a number names, if any.
+pub fn part_at(p: u8) -> Option<Part>
     ensures { said_named result ≡ named p }
 {
     let i = p as usize;
     if i < 7 {
         let part = PARTS[i];
-        Named::Part(part)
+        Some(part)
     } else {
-        Named::Unknown
+        None
     }
 }
 

@@ -8,6 +8,10 @@ use lib.Dec.{eqb, leb}
 use lib.ListN.{length, get_or, take}
 use lib.Seq.{take-length}
 use borrow.Author.Tests.{eq-eqb, ne_eqb, eqb-true}
+use Rattle.std.proofs.Common.{Result, Ok, Err}
+use Rattle.answers.specs.declared.Refusal.{Refusal}
+use Rattle.answers.specs.Refusals.{said_why}
+use Rattle.putting.specs.declared.BodyAt.{BodyAt}
 use Rattle.calculus.specs.Answer.{Answer, good, refused, ◌>>=◌, refuse, need}
 use Rattle.calculus.specs.Record.{All}
 use Rattle.notation_calculus.specs.Words.{Name, Word, same_name}
@@ -33,8 +37,6 @@ use Rattle.walks.specs.Walkable.{row_bodies}
 use Rattle.walks.proofs.Kept.{rows-read}
 use Rattle.putting.specs.Putting.{BodyThere, BodyCame, BodyAnswers, body_put, ClauseFound, CanPlace, PlacedSays}
 use Rattle.putting.specs.Main.{row_main, first_main, CanMain, main_put, MainSays}
-use Rattle.putting.specs.declared.BodyEnd as body
-use Rattle.putting.specs.declared.BodyEnd.TheVariants as body_end
 use Rattle.putting.proofs.ValueLaws.{body-at}
 use Rattle.putting.proofs.FirstLaws.{first_passes, number-first}
 
@@ -141,7 +143,7 @@ module _ (text w : List ℕ) (into : ℕ) (P : CanMain text w into) (n : ℕ) (c
         known = omega (arith, long);
       }
 
-    pub main-says : (place : ℕ) (r : body.BodyEnd) (w' : List ℕ) → PlacedSays text w k n place 0 into r w' → MainSays text w into place r w'
+    pub main-says : (place : ℕ) (r : Result BodyAt Refusal) (w' : List ℕ) → PlacedSays text w k n place 0 into r w' → MainSays text w into place r w'
     main-says place r w' p = record {
       walked = p.walked;
       says = λ X σ H HS e. subst (λ (at : ℕ). BodyAnswers text w' X into r (body_put σ at (words_for (row_bodies text w 0 (length X.clauses)) (take (length X.clauses) X.clauses) false main_name 0 []) (clause_for 0 X.clauses (take (length X.clauses) X.clauses) 0 false main_name [] [] at))) (sym e) (p.says X σ _ _ H HS (main_found place X σ H));
@@ -182,17 +184,17 @@ module _ {A : Type 0} (X : Text) (type_of : Scope → State → TypeTree → Ans
     pub came : BodyCame text w X into start top there
     pub goes : MainGoes go whole_main there.scope there.state (from text start)
 
-  there_by : (text w : List ℕ) (into start top : ℕ) (m : Answer BodyThere) → BodyAnswers text w X into (body_end.At start top) m → MainIs m whole_main → MainThere text w into start top
-  there_by text w into start top (good b) a g = record { there = b; came = a; goes = subst (MainGoes go whole_main b.scope b.state) a.body.is g }
-  there_by text w into start top (refused why) a g = absurd a
+  there_by : (text w : List ℕ) (into : ℕ) (q : BodyAt) (m : Answer BodyThere) → BodyAnswers text w X into (Ok q) m → MainIs m whole_main → MainThere text w into q.body q.top
+  there_by text w into q (good b) a g = record { there = b; came = a; goes = subst (MainGoes go whole_main b.scope b.state) a.body.is g }
+  there_by text w into q (refused why) a g = absurd a
 
-  not-by : (text w : List ℕ) (into number place : ℕ) (m : Answer BodyThere) → BodyAnswers text w X into (body_end.Refused number place) m → MainIs m whole_main → whole_main ≡ refuse number place
-  not-by text w into number place (good b) a g = absurd a
-  not-by text w into number place (refused why) a g = g ∙ ap refused a
+  not-by : (text w : List ℕ) (into : ℕ) (e : Refusal) (m : Answer BodyThere) → BodyAnswers text w X into (Err e) m → MainIs m whole_main → whole_main ≡ refused (said_why e)
+  not-by text w into e (good b) a g = absurd a
+  not-by text w into e (refused why) a g = g ∙ ap refused a
 
   module _ (text w w' : List ℕ) (into place : ℕ) (H : HoldsClauses text w X) (HS : HoldsState w σ) (e : X.end ≡ place) where
-    pub main-there : (start top : ℕ) → MainSays text w into place (body_end.At start top) w' → MainThere text w' into start top
-    main-there start top s = there_by text w' into start top (main_put X (row_bodies text w 0 (length X.clauses)) σ) (s.says X σ H HS e) (main_goes (row_bodies text w 0 (length X.clauses)) (rows-read text w X.clauses H.rows))
+    pub main-there : (q : BodyAt) → MainSays text w into place (Ok q) w' → MainThere text w' into q.body q.top
+    main-there q s = there_by text w' into q (main_put X (row_bodies text w 0 (length X.clauses)) σ) (s.says X σ H HS e) (main_goes (row_bodies text w 0 (length X.clauses)) (rows-read text w X.clauses H.rows))
 
-    pub main-not : (number at : ℕ) → MainSays text w into place (body_end.Refused number at) w' → whole_main ≡ refuse number at
-    main-not number at s = not-by text w' into number at (main_put X (row_bodies text w 0 (length X.clauses)) σ) (s.says X σ H HS e) (main_goes (row_bodies text w 0 (length X.clauses)) (rows-read text w X.clauses H.rows))
+    pub main-not : (r : Refusal) → MainSays text w into place (Err r) w' → whole_main ≡ refused (said_why r)
+    main-not r s = not-by text w' into r (main_put X (row_bodies text w 0 (length X.clauses)) σ) (s.says X σ H HS e) (main_goes (row_bodies text w 0 (length X.clauses)) (rows-read text w X.clauses H.rows))

@@ -8,6 +8,9 @@ use native.Mathlib.Omega.{arith}
 use lib.Dec.{eqb}
 use lib.ListN.{length, get_or, take}
 use borrow.Author.Tests.{eqb-true, eqb-false}
+use Rattle.std.proofs.Common.{Result}
+use Rattle.answers.specs.declared.Refusal.{Refusal}
+use Rattle.putting.specs.declared.BodyAt.{BodyAt}
 use Rattle.calculus.specs.Answer.{Answer, good}
 use Rattle.calculus.specs.Record.{All}
 use Rattle.notation_calculus.specs.Words.{Word}
@@ -30,7 +33,6 @@ use Rattle.scopes.specs.Opened.{numbers_over}
 use Rattle.walks.specs.Walkable.{row_bodies, Walkable}
 use Rattle.putting.specs.Putting.{ClauseFound, CanPlace, PlacedSays, CanMean, MeantSays}
 use Rattle.putting.specs.Main.{first_passing}
-use Rattle.putting.specs.declared.BodyEnd as body
 use Rattle.putting.proofs.ValueLaws.{body-at}
 use Rattle.putting.proofs.FirstLaws.{first_passes, number-first}
 
@@ -143,7 +145,7 @@ module _ (text w : List ℕ) (q : Asked) (frame top into : ℕ) (P : CanMean tex
           subst (λ (n : ℕ). ClauseFound text w k f.seen q.name top X σ (words S.seen) (answer n S.seen)) (sym Y.scope.entries)
           (subst (λ (n : ℕ). ClauseFound text w k f.seen q.name top X σ (words n) (answer top n)) (seen-is S Y.scope) meant-here)
 
-    pub meant-says : (r : body.BodyEnd) (w' : List ℕ) → PlacedSays text w k f.seen q.name top into r w' → MeantSays text w q frame top into r w'
+    pub meant-says : (r : Result BodyAt Refusal) (w' : List ℕ) → PlacedSays text w k f.seen q.name top into r w' → MeantSays text w q frame top into r w'
     meant-says r w' p = record {
       walked = p.walked;
       says = λ X S σ Y typed. p.says X σ _ _ Y.clauses Y.state (meant-found X S σ Y typed);

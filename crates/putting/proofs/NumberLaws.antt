@@ -5,7 +5,10 @@ use mathlib.Core.Bool.{Bool, cond}
 use mathlib.Core.List.{List, []}
 use native.Mathlib.Omega.{arith}
 use lib.ListN.{length}
-use Rattle.calculus.specs.Answer.{Answer, good, refused, ◌>>=◌, refuse}
+use Rattle.std.proofs.Common.{Ok, Err}
+use Rattle.answers.specs.declared.Refusal.{Refusal}
+use Rattle.answers.specs.Refusals.{said_why}
+use Rattle.calculus.specs.Answer.{Answer, good, refused, ◌>>=◌}
 use Rattle.calculus.proofs.Answers.{refused≢good, good-inj, refused-inj}
 use Rattle.notation_calculus.specs.Words.{curly, endCurly, Word}
 use Rattle.notation_calculus.specs.Trees.{Number}
@@ -14,7 +17,6 @@ use Rattle.notation_calculus.specs.Making.{Scope, entries, numbers_in, most_entr
 use Rattle.words.specs.Next.{Said}
 use Rattle.words.specs.Lexed.{from}
 use Rattle.words.specs.Marks.{Untold}
-use Rattle.grammar.specs.declared.steps.End.{End}
 use Rattle.grammar.specs.Ends.{rest_of, Ends}
 use Rattle.grammar.specs.Skips.{numbers_end}
 use Rattle.grammar.proofs.EndLaws.{mark_no}
@@ -25,13 +27,11 @@ use Rattle.clauses.specs.Numbers.{no_number, numbers_from}
 use Rattle.clauses.specs.Meant.{values_in}
 use Rattle.clauses.proofs.ListLaws.{numbers_group}
 use Rattle.scopes.specs.declared.frames.Frame.{Frame}
-use Rattle.scopes.specs.declared.arguments.Given.{Given}
 use Rattle.scopes.specs.Frames.{frame_in, HoldsScope}
 use Rattle.scopes.specs.Arguments.{numbers_known, NumbersGiven, CanGive}
 use Rattle.scopes.proofs.KeepLaws.{only_none}
 use Rattle.walks.specs.Says.{CanPut}
 use Rattle.putting.specs.Putting.{numbers_for, NumbersAnswer, NumbersSay}
-use Rattle.putting.specs.declared.NumbersEnd.TheVariants as numbers-end
 
 -- { .. }, or nothing, by a test of the first word
 abbrev numbers_if : List Word → Bool → Answer (Got (List Number))
@@ -47,33 +47,33 @@ read_to ws us (good g) e r = record { ks = g.value; is = e ∙ ap (λ (vs : List
 read_to ws us (refused why) e r = absurd (refused≢good r)
 
 -- .. or not
-not_read : (text w : List ℕ) (first n p : ℕ) (f : Got (List Number) → Answer (Got (List ℕ))) (m : Answer (Got (List Number))) → rest_of m ≡ refuse n p → NumbersAnswer text w first (numbers-end.Refused n p) (m >>= f)
-not_read text w first n p f (good g) e = absurd (refused≢good (sym e))
-not_read text w first n p f (refused why) e = refused-inj e
+not_read : (text w : List ℕ) (first : ℕ) (e : Refusal) (f : Got (List Number) → Answer (Got (List ℕ))) (m : Answer (Got (List Number))) → rest_of m ≡ refused (said_why e) → NumbersAnswer text w first (Err e) (m >>= f)
+not_read text w first e f (good g) h = absurd (refused≢good (sym h))
+not_read text w first e f (refused why) h = refused-inj h
 
 -- there are none
-pub numbers-none : (text w : List ℕ) (name at types frame top into : ℕ) → CanPut text w name at types frame top into → (v : Said) → Untold text at v 19 → ¬ (v.code ≡ 19) → NumbersSay text w name at types frame top (numbers-end.At 0 at) w
+pub numbers-none : (text w : List ℕ) (name at types frame top into : ℕ) → CanPut text w name at types frame top into → (v : Said) → Untold text at v 19 → ¬ (v.code ≡ 19) → NumbersSay text w name at types frame top (Ok (record { count = 0; end = at })) w
 numbers-none text w name at types frame top into P v u c = record {
   only = only_none (top + types) most_entries w;
-  says = λ S H. subst (λ (q : Bool). NumbersAnswer text w (top + types) (numbers-end.At 0 at) (numbers_if (from text at) q >>= λ ks. numbers_in S name types ks.value >>= λ ns. got ns ks.rest)) (sym (mark_no text at v curly u c)) (record { numbers = refl; few = omega (arith, P.few); rest = record { is = refl; lexed = P.lexed } });
+  says = λ S H. subst (λ (q : Bool). NumbersAnswer text w (top + types) (Ok (record { count = 0; end = at })) (numbers_if (from text at) q >>= λ ks. numbers_in S name types ks.value >>= λ ns. got ns ks.rest)) (sym (mark_no text at v curly u c)) (record { numbers = refl; few = omega (arith, P.few); rest = record { is = refl; lexed = P.lexed } });
 }
 
-module _ (text w : List ℕ) (name at types frame top into : ℕ) (P : CanPut text w name at types frame top into) (e : End) (b : ℕ) (E : Ends text b (numbers_end (from text at)) e) where
-  pub numbers_refused : ¬ (e.number ≡ 0) → NumbersSay text w name at types frame top (numbers-end.Refused e.number e.at) w
-  numbers_refused z = record {
+module _ (text w : List ℕ) (name at types frame top into : ℕ) (P : CanPut text w name at types frame top into) (b : ℕ) where
+  pub numbers_refused : (q : Refusal) → Ends text b (numbers_end (from text at)) (Err q) → NumbersSay text w name at types frame top (Err q) w
+  numbers_refused q E = record {
     only = only_none (top + types) most_entries w;
-    says = λ S H. not_read text w (top + types) e.number e.at (λ ks. numbers_in S name types ks.value >>= λ ns. got ns ks.rest) (numbers_at (from text at)) (numbers-rest (from text at) ∙ E.refuses z);
+    says = λ S H. not_read text w (top + types) q (λ ks. numbers_in S name types ks.value >>= λ ns. got ns ks.rest) (numbers_at (from text at)) (numbers-rest (from text at) ∙ E);
   }
 
-  module _ (z : e.number ≡ 0) (g : Group) (G : GroupRead text at 19 g) (f : Frame) (F : f ≡ frame_in w frame) where
-    reads : ReadTo (from text at) (from text e.at)
-    reads = read_to (from text at) (from text e.at) (numbers_at (from text at)) refl (numbers-rest (from text at) ∙ (E.reaches z).is)
+  module _ (end : ℕ) (E : Ends text b (numbers_end (from text at)) (Ok end)) (g : Group) (G : GroupRead text at 19 g) (f : Frame) (F : f ≡ frame_in w frame) where
+    reads : ReadTo (from text at) (from text end)
+    reads = read_to (from text at) (from text end) (numbers_at (from text at)) refl (numbers-rest (from text at) ∙ E.is)
 
     count-is : g.count ≡ length reads.ks
-    count-is = G.counted ∙ (numbers_group (from text at) reads.ks (from text e.at) reads.is).count
+    count-is = G.counted ∙ (numbers_group (from text at) reads.ks (from text end) reads.is).count
 
     each-is : numbers_from text at g.count ≡ reads.ks
-    each-is = ap (numbers_from text at) count-is ∙ (numbers_group (from text at) reads.ks (from text e.at) reads.is).each
+    each-is = ap (numbers_from text at) count-is ∙ (numbers_group (from text at) reads.ks (from text end) reads.is).each
 
     abbrev held : HoldsScope text w frame top P.walk.S
     held = P.walk.walkable.scope
@@ -83,19 +83,19 @@ module _ (text w : List ℕ) (name at types frame top into : ℕ) (P : CanPut te
 
     pub numbers-can : CanGive text w f at g.count (top + types)
     numbers-can = record {
-      there = record { lexed = P.lexed; readable = subst (λ (n : ℕ). Readable no_number number_at n (from text at)) (sym count-is) (numbers_group (from text at) reads.ks (from text e.at) reads.is).readable };
+      there = record { lexed = P.lexed; readable = subst (λ (n : ℕ). Readable no_number number_at n (from text at)) (sym count-is) (numbers_group (from text at) reads.ks (from text end) reads.is).readable };
       known = record { places = record { room = held.places.room; most = omega (arith, variables-low, held.places.most); inside = λ j a c. held.places.inside j (omega arith) (omega (arith, variables-low)) }; ordered = subst (λ (x : Frame). x.numbers ≤ x.variables) (sym F) held.parameters.numbers_next };
       below = omega (arith, variables-low);
       few = P.few;
     }
 
-    module _ (v : Given) (w' : List ℕ) (N : NumbersGiven text w f at g.count name (top + types) w' v) where
+    module _ (w' : List ℕ) where
       -- what is answered, where what was worked out is known
-      given_by : (S : Scope) (m : Answer (List ℕ)) → numbers_in S name types (numbers_from text at g.count) ≡ m → numbers_for S name types (from text at) ≡ (m >>= λ ns. got ns (from text e.at))
+      given_by : (S : Scope) (m : Answer (List ℕ)) → numbers_in S name types (numbers_from text at g.count) ≡ m → numbers_for S name types (from text at) ≡ (m >>= λ ns. got ns (from text end))
       given_by S m h =
           ap (λ (a : Answer (Got (List Number))). a >>= λ ks. numbers_in S name types ks.value >>= λ ns. got ns ks.rest) reads.is
-          ∙ ap (λ (ks : List Number). numbers_in S name types ks >>= λ ns. got ns (from text e.at)) (sym each-is)
-          ∙ ap (λ (a : Answer (List ℕ)). a >>= λ ns. got ns (from text e.at)) h
+          ∙ ap (λ (ks : List Number). numbers_in S name types ks >>= λ ns. got ns (from text end)) (sym each-is)
+          ∙ ap (λ (a : Answer (List ℕ)). a >>= λ ns. got ns (from text end)) h
 
       numbers_of : (S : Scope) → HoldsScope text w frame top S → S.numbers ≡ numbers_known text w f
       numbers_of S H = sym H.parameters.numbers ∙ ap (numbers_known text w) (sym F)
@@ -103,11 +103,11 @@ module _ (text w : List ℕ) (name at types frame top into : ℕ) (P : CanPut te
       entries-of : (S : Scope) → HoldsScope text w frame top S → entries S + types ≡ top + types
       entries-of S H = ap (λ (n : ℕ). n + types) H.entries
 
-      pub numbers-bad : ¬ (v.number ≡ 0) → NumbersSay text w name at types frame top (numbers-end.Refused v.number v.place) w'
-      numbers-bad y = record { only = N.only; says = λ S H. subst (NumbersAnswer text w' (top + types) (numbers-end.Refused v.number v.place)) (sym (given_by S (refuse v.number v.place) (N.refuses y S types (numbers_of S H) (entries-of S H)))) refl }
+      pub numbers-bad : (q : Refusal) → NumbersGiven text w f at g.count name (top + types) w' (Err q) → NumbersSay text w name at types frame top (Err q) w'
+      numbers-bad q N = record { only = N.only; says = λ S H. subst (NumbersAnswer text w' (top + types) (Err q)) (sym (given_by S (refused (said_why q)) (N.says S types (numbers_of S H) (entries-of S H)))) refl }
 
-      pub numbers-good : v.number ≡ 0 → NumbersSay text w name at types frame top (numbers-end.At g.count e.at) w'
-      numbers-good y = record {
+      pub numbers-good : (u : Unit {0}) → NumbersGiven text w f at g.count name (top + types) w' (Ok u) → NumbersSay text w name at types frame top (Ok (record { count = g.count; end = end })) w'
+      numbers-good u N = record {
         only = N.only;
-        says = λ S H. subst (NumbersAnswer text w' (top + types) (numbers-end.At g.count e.at)) (sym (given_by S (good (values_in w' (top + types) g.count)) (N.valued y S types (numbers_of S H) (entries-of S H)))) (record { numbers = refl; few = N.room y; rest = record { is = refl; lexed = (E.reaches z).lexed } });
+        says = λ S H. subst (NumbersAnswer text w' (top + types) (Ok (record { count = g.count; end = end }))) (sym (given_by S (good (values_in w' (top + types) g.count)) (N.says.1 S types (numbers_of S H) (entries-of S H)))) (record { numbers = refl; few = N.says.0; rest = record { is = refl; lexed = E.lexed } });
       }

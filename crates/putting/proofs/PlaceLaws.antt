@@ -7,6 +7,9 @@ use native.Mathlib.Omega.{arith}
 use lib.Dec.{leb}
 use lib.ListN.{length, get_or, set, length-set}
 use lib.Seq.{get_or-set_same, get_or-set_other}
+use Rattle.std.proofs.Common.{Ok, Err}
+use Rattle.answers.specs.declared.Reason.{Reason}
+use Rattle.answers.specs.Refusals.{refusal_at}
 use Rattle.calculus.specs.Answer.{Answer, good, ◌>>=◌, need}
 use Rattle.notation_calculus.specs.Words.{Word}
 use Rattle.notation_calculus.specs.Trees.{Clause, Text}
@@ -30,7 +33,6 @@ use Rattle.scopes.proofs.PutLaws.{cost_is}
 use Rattle.walks.specs.Walked.{TypesWalked}
 use Rattle.walks.proofs.Kept.{types_walked_none, types_walked_then, types_of_count, places-on, clauses_on}
 use Rattle.putting.specs.Putting.{BodyThere, BodyAnswers, body_put, ClauseFound, CanPlace, PlacedSays}
-use Rattle.putting.specs.declared.BodyEnd.TheVariants as body_end
 use Rattle.putting.proofs.ValueLaws.{values_on, types_typed}
 
 -- what `open` writes, a walk over types may write
@@ -54,10 +56,10 @@ types_of_opened text w k into top w' level few o =
 
 module _ (text w : List ℕ) (k seen place top into : ℕ) where
   -- no clause is meant
-  pub placed_missing : seen ≤ k → PlacedSays text w k seen place top into (body_end.Refused 33 place) w
+  pub placed_missing : seen ≤ k → PlacedSays text w k seen place top into (Err (refusal_at Reason.UnknownName place)) w
   placed_missing h = record {
     walked = types_walked_none (suc into) top w;
-    says = λ X σ words m HC HS C. subst (λ (a : Answer Put). BodyAnswers text w X into (body_end.Refused 33 place) (body_put σ place words a)) (sym (C.missing h)) refl;
+    says = λ X σ words m HC HS C. subst (λ (a : Answer Put). BodyAnswers text w X into (Err (refusal_at Reason.UnknownName place)) (body_put σ place words a)) (sym (C.missing h)) refl;
   }
 
   module _ (h : k < seen) (P : CanPlace text w k seen top into) where
@@ -98,10 +100,10 @@ module _ (text w : List ℕ) (k seen place top into : ℕ) where
 
         module _ (w₁ : List ℕ) (b : Bool) (counted : PutCounted w cost w₁ b) where
           -- too much was put in
-          pub placed-full : b ≡ false → PlacedSays text w k seen place top into (body_end.Refused 34 place) w₁
+          pub placed-full : b ≡ false → PlacedSays text w k seen place top into (Err (refusal_at Reason.TextLimit place)) w₁
           placed-full e = record {
             walked = subst (TypesWalked (suc into) top w) (sym (counted.same e)) (types_walked_none (suc into) top w);
-            says = λ X σ words m HC HS C. subst (BodyAnswers text w₁ X into (body_end.Refused 34 place)) (sym (judged_as X σ words m HC HS C false (sym e ∙ counted.judged))) refl;
+            says = λ X σ words m HC HS C. subst (BodyAnswers text w₁ X into (Err (refusal_at Reason.TextLimit place))) (sym (judged_as X σ words m HC HS C false (sym e ∙ counted.judged))) refl;
           }
 
           module _ (e : b ≡ true) where
@@ -172,13 +174,13 @@ module _ (text w : List ℕ) (k seen place top into : ℕ) where
               seen_few cs H l = omega (arith, seen_found text w cs H k l, seen_small text w k (omega (arith, H.counted)), H.counted)
 
               -- the definition is put in
-              pub placed-there : PlacedSays text w k seen place top into (body_end.At c.body (top + c.types + c.numbers)) w₂
+              pub placed-there : PlacedSays text w k seen place top into (Ok (record { body = c.body; top = top + c.types + c.numbers })) w₂
               placed-there = record {
                 walked = walked;
                 says = λ X σ words m HC HS C.
                     let l = known X σ words m HC HS C in
                     let cs = X.clauses in
-                    subst (BodyAnswers text w₂ X into (body_end.At c.body (top + c.types + c.numbers))) (sym (judged_as X σ words m HC HS C true (sym e ∙ counted.judged))) (record {
+                    subst (BodyAnswers text w₂ X into (Ok (record { body = c.body; top = top + c.types + c.numbers }))) (sym (judged_as X σ words m HC HS C true (sym e ∙ counted.judged))) (record {
                       walkable = record {
                         short = O.short;
                         room = omega (arith, P.room, walked.same);

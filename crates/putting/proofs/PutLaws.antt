@@ -6,6 +6,11 @@ use mathlib.Core.List.{List}
 use native.Mathlib.Omega.{arith}
 use lib.Dec.{leb}
 use lib.ListN.{length, take}
+use Rattle.std.proofs.Common.{Result, Ok, Err}
+use Rattle.answers.specs.declared.Refusal.{Refusal}
+use Rattle.walks.specs.declared.PutAt.{PutAt}
+use Rattle.putting.specs.declared.NumbersEnd.{NumbersEnd}
+use Rattle.putting.specs.declared.BodyAt.{BodyAt}
 use Rattle.calculus.specs.Answer.{Answer, good, refused, ◌>>=◌, need}
 use Rattle.calculus.specs.Record.{All}
 use Rattle.notation_calculus.specs.Words.{Word}
@@ -22,34 +27,33 @@ use Rattle.clauses.specs.declared.meant.Asked.{Asked}
 use Rattle.clauses.specs.Meant.{values_in}
 use Rattle.clauses.proofs.MeantLaws.{values_long}
 use Rattle.scopes.specs.Frames.{HoldsScope}
-use Rattle.walks.specs.declared.PutEnd as put
-use Rattle.walks.specs.declared.PutEnd.TheVariants as put-end
 use Rattle.walks.specs.Walkable.{row_bodies, Walkable}
 use Rattle.walks.specs.Walked.{TypesWalked}
 use Rattle.walks.specs.Says.{Offset, PutThere, put_from, PutAnswers, CanPut, PutSays}
 use Rattle.walks.proofs.Kept.{types_walked_then, types_of_entries, walkable_on, bodies_on}
-use Rattle.putting.specs.Putting.{numbers_for, NumbersAnswer, NumbersSay, BodyAnswers, body_put, ended_at, CanMean, meant_put, MeantSays}
-use Rattle.putting.specs.declared.NumbersEnd as numbers
-use Rattle.putting.specs.declared.NumbersEnd.TheVariants as numbers-end
-use Rattle.putting.specs.declared.BodyEnd as body
-use Rattle.putting.specs.declared.BodyEnd.TheVariants as body_end
+use Rattle.putting.specs.Putting.{numbers_for, NumbersAnswer, NumbersSay, BodyAnswers, body_put, CanMean, meant_put, MeantSays}
 use Rattle.putting.proofs.ValueLaws.{values_on}
 
--- a body that was answered, with the words behind the name and its arguments
+-- a body that was answered, or not, with the offset behind the name and its arguments
+abbrev pub ended_at : Result BodyAt Refusal → ℕ → Result PutAt Refusal
+ended_at (Ok q) end = Ok (record { body = q.body; end = end; top = q.top })
+ended_at (Err e) end = Err e
+
+-- .. with the words behind the name and its arguments
 module _ (text w : List ℕ) (X : Text) (into end : ℕ) (us : List Word) (rest : Offset text end us) (σ : State) (at : ℕ) (words : List Word) where
   abbrev putting_by : Put → Bool → Answer PutThere
   putting_by p t = (need t 34 at >>= λ _. good (record { table = σ.table; nodes = σ.nodes; puts = σ.puts + p.cost })) >>= λ σ₁. good (record { scope = p.scope; state = σ₁; body = words; rest = us })
 
-  ended_by : (b : body.BodyEnd) (p : Put) (t : Bool) → BodyAnswers text w X into b ((need t 34 at >>= λ _. good (record { table = σ.table; nodes = σ.nodes; puts = σ.puts + p.cost })) >>= λ σ₁. good (record { scope = p.scope; state = σ₁; body = words })) → PutAnswers text w X into (ended_at b end) (putting_by p t)
-  ended_by (body_end.At start top) p true h = record { walkable = h.walkable; variables = h.variables; body = h.body; rest = rest }
-  ended_by (body_end.At start top) p false h = absurd h
-  ended_by (body_end.Refused number place) p true h = absurd h
-  ended_by (body_end.Refused number place) p false h = h
+  ended_by : (b : Result BodyAt Refusal) (p : Put) (t : Bool) → BodyAnswers text w X into b ((need t 34 at >>= λ _. good (record { table = σ.table; nodes = σ.nodes; puts = σ.puts + p.cost })) >>= λ σ₁. good (record { scope = p.scope; state = σ₁; body = words })) → PutAnswers text w X into (ended_at b end) (putting_by p t)
+  ended_by (Ok q) p true h = record { walkable = h.walkable; variables = h.variables; body = h.body; rest = rest }
+  ended_by (Ok q) p false h = absurd h
+  ended_by (Err e) p true h = absurd h
+  ended_by (Err e) p false h = h
 
-  put_ended : (b : body.BodyEnd) (m : Answer Put) → BodyAnswers text w X into b (body_put σ at words m) → PutAnswers text w X into (ended_at b end) (m >>= λ p. one_put σ p.cost at >>= λ σ₁. good (record { scope = p.scope; state = σ₁; body = words; rest = us }))
+  put_ended : (b : Result BodyAt Refusal) (m : Answer Put) → BodyAnswers text w X into b (body_put σ at words m) → PutAnswers text w X into (ended_at b end) (m >>= λ p. one_put σ p.cost at >>= λ σ₁. good (record { scope = p.scope; state = σ₁; body = words; rest = us }))
   put_ended b (good p) h = ended_by b p (leb (σ.puts + p.cost) most_puts) h
-  put_ended (body_end.At start top) (refused why) h = absurd h
-  put_ended (body_end.Refused number place) (refused why) h = h
+  put_ended (Ok q) (refused why) h = absurd h
+  put_ended (Err e) (refused why) h = h
 
 -- numbers first, then what is made of them
 numbers_then : {A : Type 0} (m : Answer (Got (List Number))) (f : List Number → Answer (List ℕ)) (go : List ℕ → List Word → Answer A) → (m >>= λ ks. f ks.value >>= λ ns. go ns ks.rest) ≡ ((m >>= λ ks. f ks.value >>= λ ns. got ns ks.rest) >>= λ g. go g.value g.rest)
@@ -60,7 +64,7 @@ numbers_then (good ks) f go = by (f ks.value)
     by (refused why) = refl
 numbers_then (refused why) f go = refl
 
-module _ (text w : List ℕ) (sort : Bool) (name at types frame top into : ℕ) (P : CanPut text w name at types frame top into) (taken : numbers.NumbersEnd) (w₁ : List ℕ) (N : NumbersSay text w name at types frame top taken w₁) where
+module _ (text w : List ℕ) (sort : Bool) (name at types frame top into : ℕ) (P : CanPut text w name at types frame top into) (taken : Result NumbersEnd Refusal) (w₁ : List ℕ) (N : NumbersSay text w name at types frame top taken w₁) where
   taking : (m : ℕ) → TypesWalked m top w w₁
   taking m = types_of_entries m top (top + types) most_entries w w₁ (omega arith) (omega arith) N.only
 
@@ -90,24 +94,24 @@ module _ (text w : List ℕ) (sort : Bool) (name at types frame top into : ℕ) 
       ∙ numbers_then (numbers_at (from text at)) (λ ks. numbers_in S name types ks) (λ ns us. made_of X S σ (values_in w top types) ns us)
 
   -- the numbers are refused
-  refused_as : (X : Text) (n p : ℕ) (a : Answer (Got (List ℕ))) (f : Got (List ℕ) → Answer PutThere) → NumbersAnswer text w₁ (top + types) (numbers-end.Refused n p) a → PutAnswers text w₁ X into (put-end.Refused n p) (a >>= f)
-  refused_as X n p (good g) f h = absurd h
-  refused_as X n p (refused why) f h = h
+  refused_as : (X : Text) (e : Refusal) (a : Answer (Got (List ℕ))) (f : Got (List ℕ) → Answer PutThere) → NumbersAnswer text w₁ (top + types) (Err e) a → PutAnswers text w₁ X into (Err e) (a >>= f)
+  refused_as X e (good g) f h = absurd h
+  refused_as X e (refused why) f h = h
 
-  pub put_refused : (n p : ℕ) → taken ≡ numbers-end.Refused n p → PutSays text w sort name at types frame top into (put-end.Refused n p) w₁
-  put_refused n p is = record {
+  pub put_refused : (e : Refusal) → taken ≡ Err e → PutSays text w sort name at types frame top into (Err e) w₁
+  put_refused e is = record {
     walked = taking (suc into);
-    says = λ X S σ H typed. subst (PutAnswers text w₁ X into (put-end.Refused n p)) (sym (put_as X S σ)) (refused_as X n p (numbers_for S name types (from text at)) _ (subst (λ (r : numbers.NumbersEnd). NumbersAnswer text w₁ (top + types) r (numbers_for S name types (from text at))) is (N.says S H.scope)));
+    says = λ X S σ H typed. subst (PutAnswers text w₁ X into (Err e)) (sym (put_as X S σ)) (refused_as X e (numbers_for S name types (from text at)) _ (subst (λ (r : Result NumbersEnd Refusal). NumbersAnswer text w₁ (top + types) r (numbers_for S name types (from text at))) is (N.says S H.scope)));
   }
 
-  module _ (n end : ℕ) (is : taken ≡ numbers-end.At n end) where
+  module _ (q : NumbersEnd) (is : taken ≡ Ok q) where
     abbrev asked : Asked
-    asked = record { sort = sort; name = name; types = types; numbers = n; first = top + types }
+    asked = record { sort = sort; name = name; types = types; numbers = q.count; first = top + types }
 
-    answered : (S : Scope) → HoldsScope text w frame top S → NumbersAnswer text w₁ (top + types) (numbers-end.At n end) (numbers_for S name types (from text at))
-    answered S H = subst (λ (r : numbers.NumbersEnd). NumbersAnswer text w₁ (top + types) r (numbers_for S name types (from text at))) is (N.says S H)
+    answered : (S : Scope) → HoldsScope text w frame top S → NumbersAnswer text w₁ (top + types) (Ok q) (numbers_for S name types (from text at))
+    answered S H = subst (λ (r : Result NumbersEnd Refusal). NumbersAnswer text w₁ (top + types) r (numbers_for S name types (from text at))) is (N.says S H)
 
-    few-by : (a : Answer (Got (List ℕ))) → NumbersAnswer text w₁ (top + types) (numbers-end.At n end) a → top + types + n ≤ most_entries
+    few-by : (a : Answer (Got (List ℕ))) → NumbersAnswer text w₁ (top + types) (Ok q) a → top + types + q.count ≤ most_entries
     few-by (good g) h = h.few
     few-by (refused why) h = absurd h
 
@@ -120,25 +124,25 @@ module _ (text w : List ℕ) (sort : Bool) (name at types frame top into : ℕ) 
       above = P.above;
     }
 
-    module _ (b : body.BodyEnd) (w₂ : List ℕ) (M : MeantSays text w₁ asked frame top into b w₂) where
+    module _ (b : Result BodyAt Refusal) (w₂ : List ℕ) (M : MeantSays text w₁ asked frame top into b w₂) where
       -- the clause that is meant, over the memory as it was before the numbers
-      meant-before : (X : Text) (S : Scope) (σ : State) → Walkable text w frame top X S σ → All (λ (t : ℕ). t < length σ.table) (values_in w top types) → BodyAnswers text w₂ X into b (meant_put X (row_bodies text w 0 (length X.clauses)) S σ asked (run_at text name) (values_in w top types) (values_in w₁ (top + types) n))
+      meant-before : (X : Text) (S : Scope) (σ : State) → Walkable text w frame top X S σ → All (λ (t : ℕ). t < length σ.table) (values_in w top types) → BodyAnswers text w₂ X into b (meant_put X (row_bodies text w 0 (length X.clauses)) S σ asked (run_at text name) (values_in w top types) (values_in w₁ (top + types) q.count))
       meant-before X S σ H typed =
-          let answer : List (List Word) → List ℕ → Type 0 = λ bodies ts. BodyAnswers text w₂ X into b (meant_put X bodies S σ asked (run_at text name) ts (values_in w₁ (top + types) n)) in
+          let answer : List (List Word) → List ℕ → Type 0 = λ bodies ts. BodyAnswers text w₂ X into b (meant_put X bodies S σ asked (run_at text name) ts (values_in w₁ (top + types) q.count)) in
           subst (λ (bodies : List (List Word)). answer bodies (values_in w top types)) (bodies_on 0 top text w w₁ (taking 0) 0 (length X.clauses) (omega (arith, H.clauses.rows.few)))
           (subst (answer (row_bodies text w₁ 0 (length X.clauses))) same-types (M.says X S σ (still X S σ H) (subst (All (λ (t : ℕ). t < length σ.table)) (sym same-types) typed)))
 
-      there_by : (X : Text) (S : Scope) (σ : State) (a : Answer (Got (List ℕ))) → NumbersAnswer text w₁ (top + types) (numbers-end.At n end) a → BodyAnswers text w₂ X into b (meant_put X (row_bodies text w 0 (length X.clauses)) S σ asked (run_at text name) (values_in w top types) (values_in w₁ (top + types) n)) → PutAnswers text w₂ X into (ended_at b end) (a >>= λ g. made_of X S σ (values_in w top types) g.value g.rest)
+      there_by : (X : Text) (S : Scope) (σ : State) (a : Answer (Got (List ℕ))) → NumbersAnswer text w₁ (top + types) (Ok q) a → BodyAnswers text w₂ X into b (meant_put X (row_bodies text w 0 (length X.clauses)) S σ asked (run_at text name) (values_in w top types) (values_in w₁ (top + types) q.count)) → PutAnswers text w₂ X into (ended_at b q.end) (a >>= λ g. made_of X S σ (values_in w top types) g.value g.rest)
       there_by X S σ (good g) h m =
-          subst (λ (ns : List ℕ). PutAnswers text w₂ X into (ended_at b end) (made_of X S σ (values_in w top types) ns g.rest)) h.numbers
-          (put_ended text w₂ X into end g.rest h.rest σ name _ b (clause_for (entries S) X.clauses (take S.seen X.clauses) 0 sort (run_at text name) (values_in w top types) (values_in w₁ (top + types) n) name) m)
+          subst (λ (ns : List ℕ). PutAnswers text w₂ X into (ended_at b q.end) (made_of X S σ (values_in w top types) ns g.rest)) h.numbers
+          (put_ended text w₂ X into q.end g.rest h.rest σ name _ b (clause_for (entries S) X.clauses (take S.seen X.clauses) 0 sort (run_at text name) (values_in w top types) (values_in w₁ (top + types) q.count) name) m)
       there_by X S σ (refused why) h m = absurd h
 
-      pub put-there : (r : put.PutEnd) → r ≡ ended_at b end → PutSays text w sort name at types frame top into r w₂
+      pub put-there : (r : Result PutAt Refusal) → r ≡ ended_at b q.end → PutSays text w sort name at types frame top into r w₂
       put-there r e = record {
         walked = types_walked_then (suc into) (suc into) (suc into) top top top w w₁ w₂ (omega arith) (omega arith) (omega arith) (omega arith) (taking (suc into)) M.walked;
         says = λ X S σ H typed.
-            subst (λ (x : put.PutEnd). PutAnswers text w₂ X into x (whole_put X S σ)) (sym e)
-            (subst (PutAnswers text w₂ X into (ended_at b end)) (sym (put_as X S σ))
+            subst (λ (x : Result PutAt Refusal). PutAnswers text w₂ X into x (whole_put X S σ)) (sym e)
+            (subst (PutAnswers text w₂ X into (ended_at b q.end)) (sym (put_as X S σ))
             (there_by X S σ (numbers_for S name types (from text at)) (answered S H.scope) (meant-before X S σ H typed)));
       }

@@ -1,5 +1,6 @@
 -- `main`, which is put in at the text's end. Assumes nothing.
-use Rattle.std.specs.Prelude.{ℕ, zero, suc, ◌≤◌, ◌<◌, ◌≡◌, Bool, false, not, ◌&&◌, cond, List, [], eqb, length, take}
+use Rattle.std.specs.Prelude.{ℕ, zero, suc, ◌≤◌, ◌<◌, ◌≡◌, Bool, false, not, ◌&&◌, cond, List, [], Result, eqb, length, take}
+use Rattle.answers.specs.declared.Refusal.{Refusal}
 use Rattle.calculus.specs.Answer.{Answer}
 use Rattle.notation_calculus.specs.Words.{Word, same_name}
 use Rattle.notation_calculus.specs.Trees.{Text}
@@ -15,7 +16,7 @@ use Rattle.clauses.specs.Texts.{HoldsClauses}
 use Rattle.walks.specs.Walkable.{row_bodies}
 use Rattle.walks.specs.Walked.{TypesWalked}
 use Rattle.putting.specs.Putting.{BodyThere, BodyAnswers, body_put}
-use Rattle.putting.specs.declared.BodyEnd as body
+use Rattle.putting.specs.declared.BodyAt.{BodyAt}
 
 -- a row of a term named `main` without parameters
 abbrev pub row_main : List ℕ → Row → Bool
@@ -44,6 +45,6 @@ pub record CanMain (text w : List ℕ) (into : ℕ) : Type 0 where
 abbrev pub main_put : Text → List (List Word) → State → Answer BodyThere
 main_put X bodies σ = body_put σ X.end (words_for bodies (take (length X.clauses) X.clauses) false main_name 0 []) (clause_for 0 X.clauses (take (length X.clauses) X.clauses) 0 false main_name [] [] X.end)
 
-pub record MainSays (text w : List ℕ) (into place : ℕ) (r : body.BodyEnd) (w' : List ℕ) : Type 0 where
+pub record MainSays (text w : List ℕ) (into place : ℕ) (r : Result BodyAt Refusal) (w' : List ℕ) : Type 0 where
   pub walked : TypesWalked (suc into) 0 w w'
   pub says : (X : Text) (σ : State) → HoldsClauses text w X → HoldsState w σ → X.end ≡ place → BodyAnswers text w' X into r (main_put X (row_bodies text w 0 (length X.clauses)) σ)

@@ -1,7 +1,9 @@
 -- What the parts of putting in answer: numbers as arguments, a clause that is known, its body. In each record, whatever text, scope and state
 -- the memory held, the answer is that of the definition. Assumes nothing.
-use Rattle.std.specs.Prelude.{ℕ, suc, ◌+◌, ◌≤◌, ◌<◌, ◌≡◌, List, length, take}
-use Rattle.calculus.specs.Answer.{Answer, good, refused, ◌>>=◌, refuse, numbered}
+use Rattle.std.specs.Prelude.{ℕ, suc, ◌+◌, ◌≤◌, ◌<◌, ◌≡◌, List, Result, Ok, Err, length, take}
+use Rattle.answers.specs.declared.Refusal.{Refusal}
+use Rattle.answers.specs.Refusals.{said_why}
+use Rattle.calculus.specs.Answer.{Answer, good, refused, ◌>>=◌, refuse}
 use Rattle.calculus.specs.Record.{All}
 use Rattle.notation_calculus.specs.Words.{Word}
 use Rattle.notation_calculus.specs.Trees.{Text}
@@ -19,15 +21,11 @@ use Rattle.clauses.specs.Meant.{values_in}
 use Rattle.scopes.specs.Entries.{OnlyEntries}
 use Rattle.scopes.specs.Frames.{frame_in, HoldsScope}
 use Rattle.scopes.specs.Opened.{numbers_over, CanOpen}
-use Rattle.walks.specs.declared.PutEnd as put
-use Rattle.walks.specs.declared.PutEnd.TheVariants as put-end
 use Rattle.walks.specs.Walkable.{row_bodies, Walkable}
 use Rattle.walks.specs.Walked.{TypesWalked}
 use Rattle.walks.specs.Says.{Offset, CanWalk}
-use Rattle.putting.specs.declared.NumbersEnd as numbers
-use Rattle.putting.specs.declared.NumbersEnd.TheVariants as numbers-end
-use Rattle.putting.specs.declared.BodyEnd as body
-use Rattle.putting.specs.declared.BodyEnd.TheVariants as body_end
+use Rattle.putting.specs.declared.NumbersEnd.{NumbersEnd}
+use Rattle.putting.specs.declared.BodyAt.{BodyAt}
 
 -- ---- numbers as arguments, which wait as entries behind the type arguments
 
@@ -43,13 +41,13 @@ pub record NumbersCame (text w : List ℕ) (first n end : ℕ) (g : Got (List �
   pub few : first + n ≤ most_entries
   pub rest : Offset text end g.rest
 
-abbrev pub NumbersAnswer : List ℕ → List ℕ → ℕ → numbers.NumbersEnd → Answer (Got (List ℕ)) → Type 0
-NumbersAnswer text w first (numbers-end.At n end) (good g) = NumbersCame text w first n end g
-NumbersAnswer text w first (numbers-end.At n end) (refused why) = ⊥
-NumbersAnswer text w first (numbers-end.Refused number place) (good g) = ⊥
-NumbersAnswer text w first (numbers-end.Refused number place) (refused why) = why ≡ numbered number place
+abbrev pub NumbersAnswer : List ℕ → List ℕ → ℕ → Result NumbersEnd Refusal → Answer (Got (List ℕ)) → Type 0
+NumbersAnswer text w first (Ok n) (good g) = NumbersCame text w first n.count n.end g
+NumbersAnswer text w first (Ok n) (refused why) = ⊥
+NumbersAnswer text w first (Err e) (good g) = ⊥
+NumbersAnswer text w first (Err e) (refused why) = why ≡ said_why e
 
-pub record NumbersSay (text w : List ℕ) (name at types frame top : ℕ) (r : numbers.NumbersEnd) (w' : List ℕ) : Type 0 where
+pub record NumbersSay (text w : List ℕ) (name at types frame top : ℕ) (r : Result NumbersEnd Refusal) (w' : List ℕ) : Type 0 where
   pub only : OnlyEntries (top + types) most_entries w w'
   pub says : (S : Scope) → HoldsScope text w frame top S → NumbersAnswer text w' (top + types) r (numbers_for S name types (from text at))
 
@@ -67,16 +65,11 @@ pub record BodyCame (text w : List ℕ) (X : Text) (into start top : ℕ) (b : B
   pub variables : (frame_in w into).variables ≡ b.scope.under
   pub body : Offset text start b.body
 
-abbrev pub BodyAnswers : List ℕ → List ℕ → Text → ℕ → body.BodyEnd → Answer BodyThere → Type 0
-BodyAnswers text w X into (body_end.At start top) (good b) = BodyCame text w X into start top b
-BodyAnswers text w X into (body_end.At start top) (refused why) = ⊥
-BodyAnswers text w X into (body_end.Refused number place) (good b) = ⊥
-BodyAnswers text w X into (body_end.Refused number place) (refused why) = why ≡ numbered number place
-
--- the code's answer, with the offset behind the name and its arguments
-abbrev pub ended_at : body.BodyEnd → ℕ → put.PutEnd
-ended_at (body_end.At start top) end = put-end.At (record { body = start; end = end; top = top })
-ended_at (body_end.Refused number place) end = put-end.Refused number place
+abbrev pub BodyAnswers : List ℕ → List ℕ → Text → ℕ → Result BodyAt Refusal → Answer BodyThere → Type 0
+BodyAnswers text w X into (Ok q) (good b) = BodyCame text w X into q.body q.top b
+BodyAnswers text w X into (Ok q) (refused why) = ⊥
+BodyAnswers text w X into (Err e) (good b) = ⊥
+BodyAnswers text w X into (Err e) (refused why) = why ≡ said_why e
 
 -- a clause that was found, or not, is put in at a place: its cost is counted
 abbrev pub body_put : State → ℕ → List Word → Answer Put → Answer BodyThere
@@ -97,7 +90,7 @@ pub record CanPlace (text w : List ℕ) (k seen top into : ℕ) : Type 0 where
   pub room : making_size ≤ length w
   pub opens : k < seen → CanOpen text w k into top
 
-pub record PlacedSays (text w : List ℕ) (k seen place top into : ℕ) (r : body.BodyEnd) (w' : List ℕ) : Type 0 where
+pub record PlacedSays (text w : List ℕ) (k seen place top into : ℕ) (r : Result BodyAt Refusal) (w' : List ℕ) : Type 0 where
   pub walked : TypesWalked (suc into) top w w'
   pub says :
       (X : Text) (σ : State) (words : List Word) (m : Answer Put) → HoldsClauses text w X → HoldsState w σ → ClauseFound text w k seen place top X σ words m
@@ -117,7 +110,7 @@ pub record CanMean (text w : List ℕ) (q : Asked) (frame top into : ℕ) : Type
 abbrev pub meant_put : Text → List (List Word) → Scope → State → Asked → List ℕ → List ℕ → List ℕ → Answer BodyThere
 meant_put X bodies S σ q name ts ns = body_put σ q.name (words_for bodies (take S.seen X.clauses) q.sort name (length ts) ns) (clause_for (entries S) X.clauses (take S.seen X.clauses) 0 q.sort name ts ns q.name)
 
-pub record MeantSays (text w : List ℕ) (q : Asked) (frame top into : ℕ) (r : body.BodyEnd) (w' : List ℕ) : Type 0 where
+pub record MeantSays (text w : List ℕ) (q : Asked) (frame top into : ℕ) (r : Result BodyAt Refusal) (w' : List ℕ) : Type 0 where
   pub walked : TypesWalked (suc into) top w w'
   pub says :
       (X : Text) (S : Scope) (σ : State) → Walkable text w frame top X S σ → All (λ (t : ℕ). t < length σ.table) (values_in w top q.types)

@@ -3,26 +3,27 @@
 
 ghost use Rattle.std.specs.Prelude.{◌≡◌};
 ghost use Rattle.walks.specs.Says.{CanPut, PutSays};
-ghost use Rattle.putting.specs.Putting.{NumbersSay, CanPlace, PlacedSays, CanMean, MeantSays, ended_at};
+ghost use Rattle.putting.specs.Putting.{NumbersSay, CanPlace, PlacedSays, CanMean, MeantSays};
 ghost use Rattle.putting.specs.Main.{CanMain, MainSays};
 
+use answers::{Reason, Refusal};
 use clauses::meant::Asked;
-use walks::{PutAt, PutEnd};
+use walks::PutAt;
 
 pub mod mains;
 
 // How many numbers wait as arguments, and the offset behind them.
-#[derive(Clone, Copy)]
-pub enum NumbersEnd {
-    At(usize, usize),
-    Refused(u8, usize),
+#[derive(Clone, Copy, Debug, PartialEq, Eq)]
+pub struct NumbersEnd {
+    pub count: usize,
+    pub end: usize,
 }
 
 // The offset of a definition's body, and how many entries there are now.
-#[derive(Clone, Copy)]
-pub enum BodyEnd {
-    At(usize, usize),
-    Refused(u8, usize),
+#[derive(Clone, Copy, Debug, PartialEq, Eq)]
+pub struct BodyAt {
+    pub body: usize,
+    pub top: usize,
 }
 
 // The numbers at an offset, behind the type arguments that wait: 32 and 34 of the grammar, then 34 and 33 of each number.
@@ -35,25 +36,22 @@ fn numbers_behind(
     frame: usize,
     top: usize,
     into: usize,
-) -> NumbersEnd
+) -> Result<NumbersEnd, Refusal>
     requires { CanPut text.now work.old name at types frame top into }
     ensures { NumbersSay text.now work.old name at types frame top result work.new }
 {
     let kind = words::marks::mark_kind(text, at);
     if kind != grammar::steps::CURLY {
-        return NumbersEnd::At(0, at);
+        return Ok(NumbersEnd { count: 0, end: at });
     }
-    let e = grammar::steps::numbers_end(text, at);
-    if e.number != 0 {
-        return NumbersEnd::Refused(e.number, e.at);
-    }
+    let end = grammar::steps::numbers_end(text, at)?;
     let g = clauses::groups::group_at(text, at, grammar::steps::CURLY);
     let f = scopes::frames::frame_at(work, frame);
-    let v = scopes::arguments::numbers_given(text, work, at, g.count, name, f, top + types);
-    if v.number != 0 {
-        return NumbersEnd::Refused(v.number, v.place);
-    }
-    NumbersEnd::At(g.count, e.at)
+    scopes::arguments::numbers_given(text, work, at, g.count, name, f, top + types)?;
+    Ok(NumbersEnd {
+        count: g.count,
+        end,
+    })
 }
 
 // Clause k, if it is below `seen`, with its arguments above so many entries: 33, then 34 for its cost; its scope is put into a frame.
@@ -65,20 +63,23 @@ fn placed(
     place: usize,
     top: usize,
     into: usize,
-) -> BodyEnd
+) -> Result<BodyAt, Refusal>
     requires { CanPlace text.now work.old k seen top into }
     ensures { PlacedSays text.now work.old k seen place top into result work.new }
 {
     if seen <= k {
-        return BodyEnd::Refused(33, place);
+        return Err(Reason::UnknownName.at(place));
     }
     let c = clauses::rows::row_at(work, k);
     let cost = scopes::puts::cost_of(text, c);
     if !scopes::puts::count_put(work, cost) {
-        return BodyEnd::Refused(34, place);
+        return Err(Reason::TextLimit.at(place));
     }
     scopes::opened::open(text, work, k, into, top);
-    BodyEnd::At(c.body, top + c.types + c.numbers)
+    Ok(BodyAt {
+        body: c.body,
+        top: top + c.types + c.numbers,
+    })
 }
 
 // The clause that a name means with its arguments, among those that the scope's definition knows.
@@ -89,23 +90,13 @@ fn put_meant(
     frame: usize,
     top: usize,
     into: usize,
-) -> BodyEnd
+) -> Result<BodyAt, Refusal>
     requires { CanMean text.now work.old q frame top into }
     ensures { MeantSays text.now work.old q frame top into result work.new }
 {
     let f = scopes::frames::frame_at(work, frame);
     let k = clauses::meant::clause_for(text, work, q, f.seen);
     placed(text, work, k, f.seen, q.name, top, into)
-}
-
-// .. with the offset behind the name and its arguments.
-fn with_end(found: BodyEnd, end: usize) -> PutEnd
-    ensures { result ≡ ended_at found end }
-{
-    match found {
-        BodyEnd::Refused(why, place) => PutEnd::Refused(why, place),
-        BodyEnd::At(body, top) => PutEnd::At(PutAt { body, end, top }),
-    }
 }
 
 // A definition of a sort (yes means a type) by a name at a place, with its numbers at an offset and so many type arguments that wait from
@@ -120,29 +111,28 @@ pub fn put_in(
     frame: usize,
     top: usize,
     into: usize,
-) -> PutEnd
+) -> Result<PutAt, Refusal>
     requires { CanPut text.now work.old name at types frame top into }
     ensures { PutSays text.now work.old sort name at types frame top into result work.new }
 {
-    let taken = numbers_behind(text, work, name, at, types, frame, top, into);
-    match taken {
-        NumbersEnd::Refused(why, place) => PutEnd::Refused(why, place),
-        NumbersEnd::At(n, end) => {
-            let q = Asked {
-                sort,
-                name,
-                types,
-                numbers: n,
-                first: top + types,
-            };
-            let found = put_meant(text, work, q, frame, top, into);
-            with_end(found, end)
-        }
-    }
+    let n = numbers_behind(text, work, name, at, types, frame, top, into)?;
+    let q = Asked {
+        sort,
+        name,
+        types,
+        numbers: n.count,
+        first: top + types,
+    };
+    let b = put_meant(text, work, q, frame, top, into)?;
+    Ok(PutAt {
+        body: b.body,
+        end: n.end,
+        top: b.top,
+    })
 }
 
 // `main`, put in at the text's end, with its scope in the frame `into` over no entries: 33 where there is none, 34 for its cost.
-pub fn put_main(text: &[u8], work: &mut [u16], into: usize, place: usize) -> BodyEnd
+pub fn put_main(text: &[u8], work: &mut [u16], into: usize, place: usize) -> Result<BodyAt, Refusal>
     requires { CanMain text.now work.old into }
     ensures { MainSays text.now work.old into place result work.new }
 {

@@ -52,13 +52,11 @@ pub fn first_main(text: &[u8], work: &[u16], n: usize) -> usize
     requires { (RowsThere text.now work.now) × (n ≤ get_or work.now clause_count_at 0) }
     ensures { result ≡ first_main text.now work.now n }
 {
-    let mut k: usize = 0;
-    while k < n {
+    for k in 0..n {
         let r = rows::row_at(work, k);
         if is_main(text, r) {
             return k;
         }
-        k = k + 1;
     }
-    k
+    n
 }

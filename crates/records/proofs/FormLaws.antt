@@ -1,24 +1,24 @@
 -- Laws of `rec_in`: the record of a type by its number. Assumes nothing.
 use mathlib.Core.Path.{◌≡◌, refl, ap, sym, ◌∙◌}
 use mathlib.Core.Bool.{cond}
-use mathlib.Core.List.{List, [], ◌∷◌, map}
+use mathlib.Core.List.{List, map}
 use Prim.Native.Nat.{ℕ, zero, suc, ◌+◌, ◌*◌, ◌-◌, ◌≤◌, ◌<◌}
 use native.Mathlib.Omega.{arith}
 use borrow.Author.Tests.{lt-ltb, le-ltb, ne_eqb}
 use native.Mathlib.Decide.{dec_lt}
 use lib.Dec.{eqb}
 use lib.ListN.{length, get_or, get_or-map, get_or-eq_default}
-use denote.Enum.Declared.{tag_of}
-use types.Run.{OneOf, miss}
+use Rattle.std.specs.declared.option.Option.{Option}
+use Rattle.std.specs.declared.option.Option.TheVariants.{Some, None}
 use Rattle.laws.proofs.Runs.{run_at, past}
 use Rattle.laws.proofs.Tests.{by_eqb}
 use Rattle.calculus.specs.Types.{TyRec, rec01, rec02, rec03, rec04}
 use Rattle.records.specs.Record.{shapes, shape_of, form_of}
 use Rattle.records.specs.Forms.{said_form, rec_of, rec_from, rec_in}
 use Rattle.records.specs.declared.TypeRule.{TypeRule}
+use Rattle.records.specs.declared.Rule.{Rule}
 use Rattle.records.specs.declared.Shape.{Shape}
 use Rattle.records.specs.declared.Shape.TheVariants as shape
-use Rattle.records.specs.contracts.Shape.{the_type}
 
 pub rec-first : (s : List ℕ) (t : ℕ) → t ≡ 0 → rec01 ≡ rec_in s t
 unfolding rec_in
@@ -50,10 +50,10 @@ rec-bit k a b x y z = rw (ne_eqb k 2 x, ne_eqb k 3 y, ne_eqb k 4 z)
 
 -- ---- by the rule that the kind fixes
 
-abbrev ruled : ℕ → ℕ → Shape → TyRec
-ruled a b (shape.Type n u) = said_form (form_of u a b)
-ruled a b (shape.Node n m u) = rec01
-ruled a b shape.Unknown = rec01
+abbrev ruled : ℕ → ℕ → Option Shape → TyRec
+ruled a b (Some (shape.Type n u)) = said_form (form_of u a b)
+ruled a b (Some (shape.Node n m u)) = rec01
+ruled a b None = rec01
 
 rest-bit : (k a b : ℕ) → ¬ (k ≡ 2) → ¬ (k ≡ 3) → ¬ (k ≡ 4) → get_or (map (ruled a b) shapes) k rec01 ≡ rec01
 rest-bit k a b x y z =
@@ -74,15 +74,13 @@ ruled_by k a b =
 
 rec-ruled : (k a b : ℕ) → ruled a b (shape_of k) ≡ rec_of k a b
 unfolding shape_of
-rec-ruled k a b = sym (get_or-map (ruled a b) shapes k shape.Unknown) ∙ ruled_by k a b
+rec-ruled k a b = sym (get_or-map (ruled a b) shapes k None) ∙ ruled_by k a b
 
-pub rec_type : (k a b : ℕ) {n : ℕ} {u : TypeRule} → shape_of k ≡ shape.Type n u → rec_of k a b ≡ said_form (form_of u a b)
+pub rec_type : (k a b : ℕ) {n : ℕ} {u : TypeRule} → shape_of k ≡ Some (shape.Type n u) → rec_of k a b ≡ said_form (form_of u a b)
 rec_type k a b e = sym (rec-ruled k a b) ∙ ap (ruled a b) e
 
-no_type : (a b : ℕ) (h : Shape) → OneOf (1 ∷ 2 ∷ []) (tag_of the_type h) → ruled a b h ≡ rec01
-no_type a b (shape.Type n u) o = absurd (miss (1 ∷ 2 ∷ []) 0 tt o)
-no_type a b (shape.Node n m u) o = refl
-no_type a b shape.Unknown o = refl
+pub rec-node : (k a b : ℕ) {n m : ℕ} {u : Rule} → shape_of k ≡ Some (shape.Node n m u) → rec_of k a b ≡ rec01
+rec-node k a b e = sym (rec-ruled k a b) ∙ ap (ruled a b) e
 
-pub rec-none : (k a b : ℕ) {h : Shape} → h ≡ shape_of k → OneOf (1 ∷ 2 ∷ []) (tag_of the_type h) → rec_of k a b ≡ rec01
-rec-none k a b {h} e o = sym (rec-ruled k a b) ∙ ap (ruled a b) (sym e) ∙ no_type a b h o
+pub rec-none : (k a b : ℕ) → shape_of k ≡ None → rec_of k a b ≡ rec01
+rec-none k a b e = sym (rec-ruled k a b) ∙ ap (ruled a b) e

@@ -10,7 +10,13 @@ use lib.Seq.{get_or-drop, drop-drop}
 use lib.Dec.{leb}
 use Rattle.calculus.specs.Terms.{Term, var, lvar, fun, app, lfun, lapp, pair, proj, fix, con, name}
 use Rattle.sheet_theorems.specs.Laid.{Stands}
-use Rattle.records.specs.Record.{shape_of, form_of, record_at, record_of_lem, body_at, node_in_lem, node_at}
+use Rattle.std.specs.declared.option.Option.{Option}
+use Rattle.std.specs.declared.option.Option.TheVariants.{Some, None}
+use Rattle.std.specs.declared.result.Result.{Result}
+use Rattle.std.specs.declared.result.Result.TheVariants.{Ok, Err}
+use Rattle.answers.specs.declared.Reason.{Reason}
+use Rattle.answers.specs.declared.Refusal.{Refusal}
+use Rattle.records.specs.Record.{no_record, shape_of, form_of, record_at, record_of_lem, body_at, node_in_lem, node_at}
 use Rattle.records.specs.Heads.{node, node_of}
 use Rattle.records.specs.declared.Rule.{Rule}
 use Rattle.records.specs.declared.Form.{Form}
@@ -21,28 +27,28 @@ use Rattle.records.specs.declared.Record.{Record}
 use Rattle.records.specs.declared.Record.TheVariants as rec
 
 -- where a record ends: past its start and within the sheet
-abbrev pub Ends : List ℕ → ℕ → Record → Type 0
-Ends s at (rec.Type f next) = (at < next) × (next ≤ length s)
-Ends s at (rec.Node r) = (at < r.next) × (r.next ≤ length s)
-Ends s at (rec.Refused i p) = Unit
+abbrev pub Ends : List ℕ → ℕ → Result Record Refusal → Type 0
+Ends s at (Ok (rec.Type f next)) = (at < next) × (next ≤ length s)
+Ends s at (Ok (rec.Node r)) = (at < r.next) × (r.next ≤ length s)
+Ends s at (Err why) = Unit
 
 module _ (s : List ℕ) (at : ℕ) where
-  of-fits : (n : ℕ) (t : Bool) (r : Record) → (n ≤ length s - (at + 1) → Ends s at r) → leb n (length s - (at + 1)) ≡ t
-      → Ends s at (cond t r (rec.Refused 3 at))
+  of-fits : (n : ℕ) (t : Bool) (r : Result Record Refusal) → (n ≤ length s - (at + 1) → Ends s at r) → leb n (length s - (at + 1)) ≡ t
+      → Ends s at (cond t r (no_record Reason.CutShort at))
   of-fits n true r f h = f (leb-true _ _ h)
   of-fits n false r f h = tt
 
-  of-known : (term : Bool) (r : Record) → Ends s at r → Ends s at (cond term (rec.Refused 4 at) r)
+  of-known : (term : Bool) (r : Result Record Refusal) → Ends s at r → Ends s at (cond term (no_record Reason.UnknownKind at) r)
   of-known true r h = tt
   of-known false r h = h
 
-  of-shape : (term : Bool) (sh : Shape) → at < length s → Ends s at (record_of_lem term sh s at)
-  of-shape term (shape.Type n u) lt =
-      of-known term _ (of-fits n _ (rec.Type (form_of u (body_at s (at + 1) n 0) (body_at s (at + 1) n 1)) (at + 1 + n)) (λ h. omega arith) refl)
-  of-shape term (shape.Node n m u) lt = of-fits n _ (rec.Node (node u (body_at s (at + 1) n 0) (body_at s (at + 1) n 1) m (at + 1 + n))) (λ h. omega arith) refl
-  of-shape term shape.Unknown lt = tt
+  of-shape : (term : Bool) (sh : Option Shape) → at < length s → Ends s at (record_of_lem term sh s at)
+  of-shape term (Some (shape.Type n u)) lt =
+      of-known term _ (of-fits n _ (Ok (rec.Type (form_of u (body_at s (at + 1) n 0) (body_at s (at + 1) n 1)) (at + 1 + n))) (λ h. omega arith) refl)
+  of-shape term (Some (shape.Node n m u)) lt = of-fits n _ (Ok (rec.Node (node u (body_at s (at + 1) n 0) (body_at s (at + 1) n 1) m (at + 1 + n)))) (λ h. omega arith) refl
+  of-shape term None lt = tt
 
-  of_test : (term t : Bool) → leb (length s) at ≡ t → Ends s at (cond t (rec.Refused 3 at) (record_of_lem term (shape_of (get_or s at 0)) s at))
+  of_test : (term t : Bool) → leb (length s) at ≡ t → Ends s at (cond t (no_record Reason.CutShort at) (record_of_lem term (shape_of (get_or s at 0)) s at))
   of_test term true h = tt
   of_test term false h = of-shape term (shape_of (get_or s at 0)) (leb-false _ _ h)
 
@@ -51,10 +57,10 @@ pub ends : (term : Bool) (s : List ℕ) (at : ℕ) → Ends s at (record_at term
 unfolding record_at
 ends term s at = of_test s at term (leb (length s) at) refl
 
-pub node-next : (term : Bool) (s : List ℕ) (at : ℕ) {r : Node} → record_at term s at ≡ rec.Node r → (at < r.next) × (r.next ≤ length s)
+pub node-next : (term : Bool) (s : List ℕ) (at : ℕ) {r : Node} → record_at term s at ≡ Ok (rec.Node r) → (at < r.next) × (r.next ≤ length s)
 node-next term s at e = rw e at (ends term s at)
 
-pub type_next : (term : Bool) (s : List ℕ) (at : ℕ) {f : Form} {next : ℕ} → record_at term s at ≡ rec.Type f next → (at < next) × (next ≤ length s)
+pub type_next : (term : Bool) (s : List ℕ) (at : ℕ) {f : Form} {next : ℕ} → record_at term s at ≡ Ok (rec.Type f next) → (at < next) × (next ≤ length s)
 type_next term s at e = rw e at (ends term s at)
 
 -- ---- the record of a term's first node
@@ -69,13 +75,13 @@ module _ (s : List ℕ) (at k : ℕ) (xs : List ℕ) (here : drop at s ≡ k ∷
   within : suc (length xs) ≡ length s - at
   within = sym (ap length here) ∙ length-drop at s
 
-  pub record_node : (term : Bool) (n m : ℕ) (u : Rule) → shape_of k ≡ shape.Node n m u → n ≤ length xs
-      → record_at term s at ≡ rec.Node (node u (get_or (take n xs) 0 0) (get_or (take n xs) 1 0) m (at + 1 + n))
+  pub record_node : (term : Bool) (n m : ℕ) (u : Rule) → shape_of k ≡ Some (shape.Node n m u) → n ≤ length xs
+      → record_at term s at ≡ Ok (rec.Node (node u (get_or (take n xs) 0 0) (get_or (take n xs) 1 0) m (at + 1 + n)))
   unfolding record_at
   record_node term n m u sh h = rw (lt-leb (length s) at (omega (arith, within)), first_byte, sh, le-leb n (length s - (at + 1)) (omega (arith, within)), behind)
 
 -- the record at the offset of a term is its first node's
-pub stands_record : (term : Bool) (s : List ℕ) (at : ℕ) (e : Term) → Stands s at e → record_at term s at ≡ rec.Node (node_of e at)
+pub stands_record : (term : Bool) (s : List ℕ) (at : ℕ) (e : Term) → Stands s at e → record_at term s at ≡ Ok (rec.Node (node_of e at))
 unfolding shape_of
 stands_record term s at (var i) h = record_node s at 0x11 _ h.here term 1 0 _ refl (omega arith)
 stands_record term s at (lvar i) h = record_node s at 0x12 _ h.here term 1 0 _ refl (omega arith)

@@ -1,4 +1,4 @@
-// One record of a sheet: a type, a node or a refusal.
+// One record of a sheet: a type or a node, or a refusal.
 #![tactic(auto)]
 
 ghost use Rattle.std.specs.Prelude.{◌≡◌, get_or, take, drop, length, ◌+◌, ◌≤◌};
@@ -6,8 +6,10 @@ ghost use Rattle.records.specs.Record.{shape_of, form_of, record_at, no_node, no
 ghost use Rattle.records.specs.Forms.{said_form, rec_in};
 ghost use Rattle.records.specs.TypeNumbers.{sided_of, bound_in};
 
+use answers::{Reason, Refusal};
+
 // The rule for a type.
-#[derive(Clone, Copy)]
+#[derive(Clone, Copy, Debug, PartialEq, Eq)]
 pub enum TypeRule {
     Bit,
     Product,
@@ -16,7 +18,7 @@ pub enum TypeRule {
 }
 
 // The rule for a node.
-#[derive(Clone, Copy)]
+#[derive(Clone, Copy, Debug, PartialEq, Eq)]
 pub enum Rule {
     Variable,
     LinearVariable,
@@ -32,43 +34,42 @@ pub enum Rule {
 }
 
 // What a kind byte fixes: the body's length, of a node the number of subterms, and the rule.
-#[derive(Clone, Copy)]
+#[derive(Clone, Copy, Debug, PartialEq, Eq)]
 pub enum Shape {
     Type(usize, TypeRule),
     Node(usize, usize, Rule),
-    Unknown,
 }
 
-// One decision over the kind byte.
-pub fn shape_of(kind: u8) -> Shape
+// One decision over the kind byte; no shape where the kind is unknown.
+pub fn shape_of(kind: u8) -> Option<Shape>
     ensures { result ≡ shape_of kind }
 {
     match kind {
         0x01..=0x04 => match kind {
-            0x01 => Shape::Type(0, TypeRule::Bit),
-            0x02 => Shape::Type(2, TypeRule::Product),
-            0x03 => Shape::Type(2, TypeRule::Arrow),
-            _ => Shape::Type(2, TypeRule::Linear),
+            0x01 => Some(Shape::Type(0, TypeRule::Bit)),
+            0x02 => Some(Shape::Type(2, TypeRule::Product)),
+            0x03 => Some(Shape::Type(2, TypeRule::Arrow)),
+            _ => Some(Shape::Type(2, TypeRule::Linear)),
         },
         0x11..=0x1B => match kind {
-            0x11 => Shape::Node(1, 0, Rule::Variable),
-            0x12 => Shape::Node(1, 0, Rule::LinearVariable),
-            0x13 => Shape::Node(1, 1, Rule::Function),
-            0x14 => Shape::Node(0, 2, Rule::Application),
-            0x15 => Shape::Node(1, 1, Rule::LinearFunction),
-            0x16 => Shape::Node(0, 2, Rule::LinearApplication),
-            0x17 => Shape::Node(1, 2, Rule::Pair),
-            0x18 => Shape::Node(0, 2, Rule::Projection),
-            0x19 => Shape::Node(1, 1, Rule::FixedPoint),
-            0x1A => Shape::Node(2, 0, Rule::Constant),
-            _ => Shape::Node(0, 2, Rule::Naming),
+            0x11 => Some(Shape::Node(1, 0, Rule::Variable)),
+            0x12 => Some(Shape::Node(1, 0, Rule::LinearVariable)),
+            0x13 => Some(Shape::Node(1, 1, Rule::Function)),
+            0x14 => Some(Shape::Node(0, 2, Rule::Application)),
+            0x15 => Some(Shape::Node(1, 1, Rule::LinearFunction)),
+            0x16 => Some(Shape::Node(0, 2, Rule::LinearApplication)),
+            0x17 => Some(Shape::Node(1, 2, Rule::Pair)),
+            0x18 => Some(Shape::Node(0, 2, Rule::Projection)),
+            0x19 => Some(Shape::Node(1, 1, Rule::FixedPoint)),
+            0x1A => Some(Shape::Node(2, 0, Rule::Constant)),
+            _ => Some(Shape::Node(0, 2, Rule::Naming)),
         },
-        _ => Shape::Unknown,
+        _ => None,
     }
 }
 
 // A type record: the single bit, or a product, a sharable or a linear arrow with its two type numbers.
-#[derive(Clone, Copy)]
+#[derive(Clone, Copy, Debug, PartialEq, Eq)]
 pub enum Form {
     Bit,
     Product(u8, u8),
@@ -88,7 +89,7 @@ fn form_of(rule: TypeRule, left: u8, right: u8) -> Form
 }
 
 // A node's record: its rule, its two bytes (0 where the body is shorter), its number of subterms, and the offset past it.
-#[derive(Clone, Copy)]
+#[derive(Clone, Copy, Debug, PartialEq, Eq)]
 pub struct Node {
     pub rule: Rule,
     pub first: u8,
@@ -97,12 +98,11 @@ pub struct Node {
     pub next: usize,
 }
 
-// What stands at an offset: a type and the offset past its record, a node, or a refusal (3 or 4) with its number and its place.
-#[derive(Clone, Copy)]
+// What stands at an offset: a type and the offset past its record, or a node.
+#[derive(Clone, Copy, Debug, PartialEq, Eq)]
 pub enum Record {
     Type(Form, usize),
     Node(Node),
-    Refused(u8, usize),
 }
 
 // The body's byte j, and 0 where the body is shorter.
@@ -113,42 +113,40 @@ fn body(s: &[u8], from: usize, len: usize, j: usize) -> u8
     if j < len { s[from + j] } else { 0 }
 }
 
-// Inside the term no type's kind is known.
-pub fn record_at(s: &[u8], at: usize, term: bool) -> Record
+// The record at an offset, or refusal 3 or 4. Inside the term no type's kind is known.
+pub fn record_at(s: &[u8], at: usize, term: bool) -> Result<Record, Refusal>
     ensures { result ≡ record_at term s.now at }
 {
     if s.len() <= at {
-        return Record::Refused(3, at);
+        return Err(Reason::CutShort.at(at));
     }
+    let Some(shape) = shape_of(s[at]) else {
+        return Err(Reason::UnknownKind.at(at));
+    };
     let from = at + 1;
-    match shape_of(s[at]) {
+    match shape {
         Shape::Type(n, rule) => {
             if term {
-                return Record::Refused(4, at);
+                return Err(Reason::UnknownKind.at(at));
             }
-            if n <= s.len() - from {
-                Record::Type(
-                    form_of(rule, body(s, from, n, 0), body(s, from, n, 1)),
-                    from + n,
-                )
-            } else {
-                Record::Refused(3, at)
+            if s.len() - from < n {
+                return Err(Reason::CutShort.at(at));
             }
+            let form = form_of(rule, body(s, from, n, 0), body(s, from, n, 1));
+            Ok(Record::Type(form, from + n))
         }
         Shape::Node(n, subterms, rule) => {
-            if n <= s.len() - from {
-                Record::Node(Node {
-                    rule,
-                    first: body(s, from, n, 0),
-                    second: body(s, from, n, 1),
-                    subterms,
-                    next: from + n,
-                })
-            } else {
-                Record::Refused(3, at)
+            if s.len() - from < n {
+                return Err(Reason::CutShort.at(at));
             }
+            Ok(Record::Node(Node {
+                rule,
+                first: body(s, from, n, 0),
+                second: body(s, from, n, 1),
+                subterms,
+                next: from + n,
+            }))
         }
-        Shape::Unknown => Record::Refused(4, at),
     }
 }
 
@@ -165,7 +163,7 @@ fn no_node() -> Node
 }
 
 // The node at an offset of a sheet that has been read, where one stands; one of zeros elsewhere. A walk over a read sheet asks for
-// nothing else, and is spared the answer's other two cases.
+// nothing else, and is spared the answer's other cases.
 pub fn node_at(s: &[u8], at: usize) -> Node
     ensures { result ≡ node_at s.now at }
 {
@@ -173,7 +171,10 @@ pub fn node_at(s: &[u8], at: usize) -> Node
         return no_node();
     }
     let from = at + 1;
-    let Shape::Node(n, subterms, rule) = shape_of(s[at]) else {
+    let Some(shape) = shape_of(s[at]) else {
+        return no_node();
+    };
+    let Shape::Node(n, subterms, rule) = shape else {
         return no_node();
     };
     if s.len() - from < n {
@@ -195,18 +196,22 @@ pub fn type_at(s: &[u8], t: u8) -> Form
     if t == 0 {
         return Form::Bit;
     }
-    let at = 3 * wide(t) - 2;
+    let at = 3 * usize::from(t) - 2;
     if s.len() < at + 3 {
         return Form::Bit;
     }
-    let Shape::Type(_, rule) = shape_of(s[at]) else {
+    let Some(shape) = shape_of(s[at]) else {
+        return Form::Bit;
+    };
+    let Shape::Type(_, rule) = shape else {
         return Form::Bit;
     };
     form_of(rule, s[at + 1], s[at + 2])
 }
 
-// A type record as numbers: its kind, 1 to 4, and its two sides, 0 for the single bit.
-#[derive(Clone, Copy)]
+// A type record as numbers: its kind, 1 to 4, and its two sides, 0 for the single bit. They stay numbers, since the typing rules compare
+// each by one test, where a match on a form has four arms.
+#[derive(Clone, Copy, Debug, PartialEq, Eq)]
 pub struct Sided {
     pub kind: u8,
     pub left: u8,

@@ -1,17 +1,15 @@
 -- Entries: stores, and the first or last of a name against Making's `lookup`. Assumes nothing.
-use Prim.Native.Nat.{ℕ, zero, suc, ◌+◌, ◌*◌, ◌-◌, ◌≤◌, ◌<◌}
+use Prim.Native.Nat.{ℕ, suc, ◌+◌, ◌-◌, ◌≤◌, ◌<◌}
 use mathlib.Core.Path.{◌≡◌, refl, sym, ap, ◌∙◌}
 use mathlib.Core.Bool.{Bool, true, false, cond}
 use mathlib.Core.List.{List, [], ◌∷◌}
 use native.Mathlib.Omega.{arith}
-use lib.Dec.{eqb, leb}
-use lib.ListN.{length, get_or, set, take, drop}
+use lib.Dec.{eqb}
+use lib.ListN.{set}
 use lib.Seq.{sets}
 use borrow.Author.Tests.{eq-eqb, ne_eqb}
 use Rattle.notation_calculus.specs.Words.{same_name}
-use Rattle.notation_calculus.specs.Making.{Entry, lookup}
 use Rattle.words.specs.Next.{run_at}
-use Rattle.making_memory.specs.Map.{scope_at}
 use Rattle.scopes.specs.declared.frames.Frame.{Frame}
 use Rattle.scopes.specs.Entries.{place_in, first_named, last_named, last_placed}
 
@@ -52,8 +50,11 @@ module _ (text work : List ℕ) (at from to : ℕ) where
       pub first_more : same_name (run_at text at) (run_at text p) ≡ false → FirstLeft text work at from to (e + 1)
       first_more h = record { low = omega (arith, s.low); most = omega arith; total = one_entry ∙ ap (λ (b : Bool). cond b e (first_named text work at (e + 1) (to - (e + 1)))) h }
 
-    pub first-all : to ≤ e → e ≡ first_named text work at from (to - from)
-    first-all h = let g : to - e ≡ 0 = omega arith in sym (s.total ∙ ap (first_named text work at e) g)
+    pub first-all : to ≤ e → to ≡ first_named text work at from (to - from)
+    first-all h =
+        let g : to - e ≡ 0 = omega arith in
+        let f : to ≡ e = omega (arith, s.most) in
+        f ∙ sym (s.total ∙ ap (first_named text work at e) g)
 
 -- ---- the last of a name
 
@@ -81,11 +82,8 @@ module _ (text work : List ℕ) (at from to : ℕ) where
       pub last_more : same_name (run_at text at) (run_at text p) ≡ false → LastLeft text work at from to (e - 1)
       last_more h = record { low = omega arith; most = omega (arith, s.most); total = last_entry ∙ ap (λ (b : Bool). cond b e (last_named text work at from (e - 1 - from))) h }
 
-    pub last-all : e ≤ from → e ≡ last_named text work at from (to - from)
-    last-all h =
-        let g : e - from ≡ 0 = omega arith in
-        let f : e ≡ from = omega (arith, s.low) in
-        f ∙ sym (s.total ∙ ap (last_named text work at from) g)
+    pub last-all : e ≤ from → from ≡ last_named text work at from (to - from)
+    last-all h = let g : e - from ≡ 0 = omega arith in sym (s.total ∙ ap (last_named text work at from) g)
 
 -- ---- the last of a place
 
@@ -113,8 +111,5 @@ module _ (work : List ℕ) (place from to : ℕ) where
       pub placed-more : ¬ (p ≡ place) → PlacedLeft work place from to (e - 1)
       placed-more h = record { low = omega arith; most = omega (arith, s.most); total = placed-entry ∙ ap (λ (b : Bool). cond b e (last_placed work place from (e - 1 - from))) (ne_eqb p place h) }
 
-    pub placed-all : e ≤ from → e ≡ last_placed work place from (to - from)
-    placed-all h =
-        let g : e - from ≡ 0 = omega arith in
-        let f : e ≡ from = omega (arith, s.low) in
-        f ∙ sym (s.total ∙ ap (last_placed work place from) g)
+    pub placed-all : e ≤ from → from ≡ last_placed work place from (to - from)
+    placed-all h = let g : e - from ≡ 0 = omega arith in sym (s.total ∙ ap (last_placed work place from) g)

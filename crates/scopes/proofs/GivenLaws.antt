@@ -7,23 +7,23 @@ use native.Mathlib.Omega.{arith}
 use lib.Dec.{leb}
 use lib.ListN.{length, get_or}
 use borrow.Author.Tests.{le-leb, lt-leb}
-use Rattle.calculus.specs.Answer.{Answer, good, refused, ◌>>=◌, refuse, need}
-use Rattle.calculus.proofs.Answers.{good-inj}
+use Rattle.calculus.specs.Answer.{Answer, good, refused, ◌>>=◌, need}
+use Rattle.std.proofs.Common.{Result, Ok, Err}
+use Rattle.answers.specs.declared.Refusal.{Refusal as Why}
+use Rattle.answers.specs.declared.Reason.TheVariants.{TextLimit}
+use Rattle.answers.specs.Refusals.{refusal_at, said_why}
 use Rattle.notation_calculus.specs.Words.{Word}
 use Rattle.notation_calculus.specs.Trees.{Number}
 use Rattle.notation_calculus.specs.Grammar.{Got, behind, number_at}
 use Rattle.notation_calculus.specs.Making.{Entry, Scope, entries, number_of, numbers_in, most_entries}
-use Rattle.words.specs.Next.{Said}
-use Rattle.words.specs.Lexed.{from, Onward, Stands}
-use Rattle.making_memory.specs.Map.{scope_at, making_size}
+use Rattle.words.specs.Lexed.{from}
+use Rattle.making_memory.specs.Map.{scope_at}
 use Rattle.clauses.specs.Groups.{value_in, rest_in_lem, list_in, Readable}
 use Rattle.clauses.specs.Numbers.{no_number, NumberThere, numbers_from, NumbersThere}
 use Rattle.clauses.specs.Meant.{values_in}
-use Rattle.clauses.proofs.NumberLaws.{behind_on, number_there}
 use Rattle.scopes.specs.declared.frames.Frame.{Frame}
 use Rattle.scopes.specs.declared.arguments.Value.{Value}
-use Rattle.scopes.specs.declared.arguments.Given.{Given}
-use Rattle.scopes.specs.Entries.{place_in, Places, with_entry, OnlyEntries}
+use Rattle.scopes.specs.Entries.{with_entry, OnlyEntries}
 use Rattle.scopes.specs.Arguments.{numbers_known, NumbersKnown, ValueRead, NumbersGiven, CanGive}
 use Rattle.scopes.proofs.KeepLaws.{entry_value, entry_only, only_none, only_then, named-same}
 
@@ -94,15 +94,13 @@ module _ (text w₀ : List ℕ) (f : Frame) (start n name top : ℕ) (C : CanGiv
       ordered = C.known.ordered;
     }
 
-    pub giving-done : n ≤ i → NumbersGiven text w₀ f start n name top w (record { number = 0; place = 0 })
+    pub giving-done : n ≤ i → NumbersGiven text w₀ f start n name top w (Ok tt)
     giving-done h =
         let z : n - i ≡ 0 = omega arith in
         let y : i ≡ n = omega (arith, c.most) in
         record {
           only = c.only;
-          room = λ _. omega (arith, c.few);
-          valued = λ _ S j e g. c.total S j e g ∙ ap (λ (k : ℕ). before (values_in w top i) (numbers_in S name (j + i) (numbers_from text p k))) z ∙ ap good (append-none (values_in w top i)) ∙ ap (λ (k : ℕ). good (values_in w top k)) y;
-          refuses = λ q. absurd (q refl);
+          says = (omega (arith, c.few), λ S j e g. c.total S j e g ∙ ap (λ (k : ℕ). before (values_in w top i) (numbers_in S name (j + i) (numbers_from text p k))) z ∙ ap good (append-none (values_in w top i)) ∙ ap (λ (k : ℕ). good (values_in w top k)) y);
         }
       where
         append-none : (vs : List ℕ) → vs ++ [] ≡ vs
@@ -135,33 +133,29 @@ module _ (text w₀ : List ℕ) (f : Frame) (start n name top : ℕ) (C : CanGiv
       step-on : (S : Scope) (j : ℕ) → S.numbers ≡ numbers_known text w₀ f → (g : entries S + j ≡ top) → (b : Bool) → leb (top + i + 1) most_entries ≡ b → (m : Answer ℕ) → number_of (numbers_known text w f) firstNumber ≡ m → numbers_in S name j (numbers_from text start n) ≡ before (values_in w top i) (need b 34 name >>= λ _. m >>= λ v. numbers_in S name (suc (j + i)) laterNumbers >>= λ ns. good (v ∷ ns))
       step-on S j e g b h m q = c.total S j e g ∙ ap (λ (k : ℕ). before (values_in w top i) (numbers_in S name (j + i) (numbers_from text p k))) left_is ∙ ap (before (values_in w top i)) (step_is S name (j + i) firstNumber laterNumbers b (ap (λ (k : ℕ). leb k most_entries) (full S j g) ∙ h) m (ap (λ (Γ : List Entry). number_of Γ firstNumber) (e ∙ sym known_same) ∙ q))
 
-      pub giving-full : most_entries < top + i + 1 → NumbersGiven text w₀ f start n name top w (record { number = 34; place = name })
+      pub giving-full : most_entries < top + i + 1 → NumbersGiven text w₀ f start n name top w (Err (refusal_at TextLimit name))
       giving-full h = record {
         only = c.only;
-        room = λ q. absurd (omega arith);
-        valued = λ q. absurd (omega arith);
-        refuses = λ _ S j e g. step-on S j e g false (lt-leb (top + i + 1) most_entries h) (number_of (numbers_known text w f) firstNumber) refl;
+        says = λ S j e g. step-on S j e g false (lt-leb (top + i + 1) most_entries h) (number_of (numbers_known text w f) firstNumber) refl;
       }
 
-      module _ (room : top + i + 1 ≤ most_entries) (u : List Word) (ui : behind (from text p) ≡ u) (v : Value) (R : ValueRead text w f u v) where
-        read_is : number_at (behind (from text p)) ≡ good (record { value = R.read; rest = from text v.end })
+      module _ (room : top + i + 1 ≤ most_entries) (u : List Word) (ui : behind (from text p) ≡ u) (r : Result Value Why) (R : ValueRead text w f u r) where
+        read_is : number_at (behind (from text p)) ≡ good (record { value = R.read; rest = from text R.end })
         read_is = ap number_at ui ∙ R.is
 
         first-is : firstNumber ≡ R.read
         first-is = ap (value_in no_number) read_is
 
-        later-is : laterNumbers ≡ numbers_from text v.end left
+        later-is : laterNumbers ≡ numbers_from text R.end left
         later-is = ap (λ (m : Answer (Got Number)). list_in no_number number_at left (rest_in_lem m)) read_is
 
-        pub giving-bad : ¬ (v.number ≡ 0) → NumbersGiven text w₀ f start n name top w (record { number = v.number; place = v.value })
-        giving-bad z = record {
+        pub giving-bad : (why : Why) → number_of (numbers_known text w f) R.read ≡ refused (said_why why) → NumbersGiven text w₀ f start n name top w (Err why)
+        giving-bad why z = record {
           only = c.only;
-          room = λ q. absurd (z q);
-          valued = λ q. absurd (z q);
-          refuses = λ _ S j e g. step-on S j e g true (le-leb (top + i + 1) most_entries room) (refuse v.number v.value) (ap (number_of (numbers_known text w f)) first-is ∙ R.refuses z);
+          says = λ S j e g. step-on S j e g true (le-leb (top + i + 1) most_entries room) (refused (said_why why)) (ap (number_of (numbers_known text w f)) first-is ∙ z);
         }
 
-        module _ (z : v.number ≡ 0) where
+        module _ (v : Value) (z : (v.end ≡ R.end) × (number_of (numbers_known text w f) R.read ≡ good v.value) × (v.value ≤ 255)) where
           abbrev w' : List ℕ
           w' = with_entry w (top + i) 0 v.value
 
@@ -176,17 +170,20 @@ module _ (text w₀ : List ℕ) (f : Frame) (start n name top : ℕ) (C : CanGiv
               ∙ sym (values_more w' i top)
               ∙ ap (values_in w' top) y
 
-          pub giving-more : Giving text w₀ f start n name top w' (i + 1) v.end
-          giving-more = record {
+          giving-on : Giving text w₀ f start n name top w' (i + 1) R.end
+          giving-on = record {
             most = omega arith;
             there = record { lexed = R.lexed; readable = subst (λ (m : Answer (Got Number)). Readable no_number number_at left (rest_in_lem m)) read_is all_left.readable.1 };
             only = only_then top most_entries (top + i) (top + i + 1) top most_entries w₀ w w' (omega arith) (omega arith) (omega arith) (omega arith) c.only stored;
             few = omega arith;
             total = λ S j e g.
                 let y : suc (j + i) ≡ j + (i + 1) = omega arith in
-                step-on S j e g true (le-leb (top + i + 1) most_entries room) (good v.value) (ap (number_of (numbers_known text w f)) first-is ∙ R.valued z)
+                step-on S j e g true (le-leb (top + i + 1) most_entries room) (good v.value) (ap (number_of (numbers_known text w f)) first-is ∙ z.1)
                 ∙ before_one (values_in w top i) v.value (numbers_in S name (suc (j + i)) laterNumbers)
                 ∙ ap (λ (vs : List ℕ). before vs (numbers_in S name (suc (j + i)) laterNumbers)) values-now
                 ∙ ap (λ (k : ℕ). before (values_in w' top (i + 1)) (numbers_in S name k laterNumbers)) y
                 ∙ ap (λ (l : List Number). before (values_in w' top (i + 1)) (numbers_in S name (j + (i + 1)) l)) later-is;
           }
+
+          pub giving-more : Giving text w₀ f start n name top w' (i + 1) v.end
+          giving-more = subst (Giving text w₀ f start n name top w' (i + 1)) (sym z.0) giving-on

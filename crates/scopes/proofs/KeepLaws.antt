@@ -1,15 +1,15 @@
 -- What stays when entries are written: entries elsewhere, frames, and a scope below what is written. Assumes nothing.
 use Prim.Native.Nat.{ℕ, zero, suc, ◌+◌, ◌*◌, ◌-◌, ◌≤◌, ◌<◌}
 use mathlib.Core.Path.{◌≡◌, refl, sym, ap, ◌∙◌, subst}
-use mathlib.Core.Bool.{Bool, cond}
-use mathlib.Core.List.{List, [], ◌∷◌}
+use mathlib.Core.Bool.{cond}
+use mathlib.Core.List.{List, ◌∷◌}
 use native.Mathlib.Omega.{arith}
 use native.Mathlib.Decide.{dec_le}
 use lib.Dec.{eqb}
 use lib.ListN.{length, get_or, set, length-set}
 use lib.Seq.{get_or-set_same, get_or-set_other}
 use Rattle.notation_calculus.specs.Trees.{Bound, Clause}
-use Rattle.notation_calculus.specs.Making.{Entry, Scope, entries, bind, with_variables, most_entries}
+use Rattle.notation_calculus.specs.Making.{Entry, Scope, bind, with_variables, most_entries}
 use Rattle.words.specs.Next.{run_at, name_in}
 use Rattle.making_memory.specs.Map.{scope_at, clauses_at, frames_at, clause_count_at, making_size}
 use Rattle.clauses.specs.declared.rows.Row.{Row}

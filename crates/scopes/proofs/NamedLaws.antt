@@ -6,21 +6,21 @@ use mathlib.Core.List.{List, [], ◌∷◌, ◌++◌, append_assoc}
 use native.Mathlib.Omega.{arith}
 use native.Mathlib.Decide.{dec_le}
 use lib.Dec.{eqb}
-use lib.ListN.{length, get_or}
+use lib.ListN.{length}
 use borrow.Author.Tests.{eq-eqb, ne_eqb}
-use Rattle.calculus.specs.Answer.{Answer, good}
+use Rattle.calculus.specs.Answer.{Answer}
 use Rattle.calculus.proofs.Answers.{refused≢good}
 use Rattle.notation_calculus.specs.Words.{Name, Word}
 use Rattle.notation_calculus.specs.Trees.{Bound, Number}
 use Rattle.notation_calculus.specs.Grammar.{Got, peek, behind, name_at}
 use Rattle.notation_calculus.specs.Making.{Entry, bind_types, bind_numbers, most_entries}
 use Rattle.words.specs.Next.{Said, run_at}
-use Rattle.words.specs.Lexed.{from, Lexed, Onward, Stands}
+use Rattle.words.specs.Lexed.{from, Onward, Stands}
 use Rattle.making_memory.specs.Map.{scope_at, making_size}
 use Rattle.clauses.specs.declared.numbers.Num.{Num}
 use Rattle.clauses.specs.Groups.{code_at, value_in, rest_in_lem, list_in, Readable}
 use Rattle.clauses.specs.Rows.{no_bound}
-use Rattle.clauses.specs.Numbers.{no_number, NumberRead, numbers_from, NumbersThere}
+use Rattle.clauses.specs.Numbers.{NumberRead, numbers_from, NumbersThere}
 use Rattle.clauses.specs.Meant.{values_in}
 use Rattle.clauses.proofs.ListLaws.{NameRead, name-read}
 use Rattle.clauses.proofs.HeadLaws.{spelled-here, name-onward, place_inside}

@@ -14,7 +14,7 @@ use Rattle.notation_calculus.specs.Grammar.{name_at}
 use Rattle.notation_calculus.specs.Making.{Entry, bind_types, bind_numbers, put_of, most_entries}
 use Rattle.words.specs.Next.{run_at}
 use Rattle.words.specs.Lexed.{from}
-use Rattle.making_memory.specs.Map.{scope_at, halves_at, frames_at, clause_count_at, making_size}
+use Rattle.making_memory.specs.Map.{scope_at, frames_at, clause_count_at, making_size}
 use Rattle.clauses.specs.declared.rows.Row.{Row}
 use Rattle.clauses.specs.Groups.{Readable}
 use Rattle.clauses.specs.Rows.{RowOf, row_in, no_bound, clause_of, HoldsRows}
@@ -25,7 +25,7 @@ use Rattle.clauses.proofs.ListLaws.{types_group}
 use Rattle.clauses.proofs.TableLaws.{row-numbers, row_there, rows_there}
 use Rattle.clauses.proofs.MeantLaws.{seen_found}
 use Rattle.scopes.specs.declared.frames.Frame.{Frame}
-use Rattle.scopes.specs.Entries.{place_in, named_from, Places, OnlyEntries}
+use Rattle.scopes.specs.Entries.{place_in, named_from, OnlyEntries}
 use Rattle.scopes.specs.Frames.{frame_in, HoldsParameters, HoldsScope}
 use Rattle.scopes.specs.Named.{bound_from, NamesThere, CanName, EntriesNamed}
 use Rattle.scopes.specs.Opened.{numbers_over, variables_over, CanOpen, Opened}

@@ -1,10 +1,10 @@
 -- Names in scope as entries of the working memory: the place of a name, and a value. Assumes nothing.
 -- The text's length is the place of a name that no text has.
-use Rattle.std.specs.Prelude.{ℕ, zero, suc, ◌+◌, ◌*◌, ◌≤◌, ◌<◌, ◌≡◌, Bool, cond, List, [], ◌∷◌, eqb, length, get_or, set}
+use Rattle.std.specs.Prelude.{ℕ, zero, suc, ◌+◌, ◌*◌, ◌≤◌, ◌<◌, ◌≡◌, cond, List, [], ◌∷◌, eqb, length, get_or, set}
 use Rattle.notation_calculus.specs.Words.{same_name}
 use Rattle.notation_calculus.specs.Making.{Entry, most_entries}
 use Rattle.words.specs.Next.{run_at, name_in}
-use Rattle.making_memory.specs.Map.{scope_at, halves_at, making_size}
+use Rattle.making_memory.specs.Map.{scope_at, making_size}
 
 abbrev pub place_in : List ℕ → ℕ → ℕ
 place_in work e = get_or work (scope_at + 2 * e) 0

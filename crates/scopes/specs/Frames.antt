@@ -1,7 +1,7 @@
 -- What a definition knows, as four numbers of the working memory; a scope of Making in the memory. Assumes nothing.
-use Rattle.std.specs.Prelude.{ℕ, ◌+◌, ◌*◌, ◌-◌, ◌≤◌, ◌<◌, ◌≡◌, List, length, get_or}
-use Rattle.notation_calculus.specs.Making.{Entry, Scope, entries, most_entries}
-use Rattle.making_memory.specs.Map.{frames_at, making_size}
+use Rattle.std.specs.Prelude.{ℕ, ◌+◌, ◌*◌, ◌-◌, ◌≤◌, ◌≡◌, List, length, get_or}
+use Rattle.notation_calculus.specs.Making.{Scope, entries}
+use Rattle.making_memory.specs.Map.{frames_at}
 use Rattle.scopes.specs.declared.frames.Frame.{Frame}
 use Rattle.scopes.specs.Entries.{entries_back, named_from, Places}
 

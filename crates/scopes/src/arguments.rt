@@ -5,59 +5,42 @@ ghost use Rattle.scopes.specs.Arguments.{NumbersKnown, ValueRead, NumbersGiven, 
 
 use crate::entries;
 use crate::frames::Frame;
+use answers::{Reason, Refusal};
 
 const MOST_ENTRIES: usize = 1024;
 
-// A value and the offset behind it; or a refusal's number, which is not 0, and its place.
+// A value and the offset behind it.
 #[derive(Clone, Copy)]
 pub struct Value {
-    pub number: u8,
     pub value: usize,
     pub end: usize,
 }
 
 // The value of k, n or n + k: 33, then 34, at its place.
-pub fn value_at(text: &[u8], work: &[u16], at: usize, f: Frame) -> Value
+pub fn value_at(text: &[u8], work: &[u16], at: usize, f: Frame) -> Result<Value, Refusal>
     requires { (Lexed text.now at) × ((NumberThere (from text.now at)) × (NumbersKnown text.now work.now f)) }
     ensures { ValueRead text.now work.now f (from text.now at) result }
 {
     let k = clauses::numbers::number_at(text, at);
     if !k.named {
-        return Value {
-            number: 0,
+        return Ok(Value {
             value: k.plus,
             end: k.end,
-        };
+        });
     }
     let e = entries::first_of(text, work, k.place, f.numbers, f.variables);
     if e == f.variables {
-        return Value {
-            number: 33,
-            value: k.place,
-            end: k.end,
-        };
+        return Err(Reason::UnknownName.at(k.place));
     }
     let v = entries::value_of(work, e);
     let n = v + k.plus;
     if 255 < n {
-        return Value {
-            number: 34,
-            value: k.place,
-            end: k.end,
-        };
+        return Err(Reason::TextLimit.at(k.place));
     }
-    Value {
-        number: 0,
+    Ok(Value {
         value: n,
         end: k.end,
-    }
-}
-
-// 0, or a refusal's number and its place.
-#[derive(Clone, Copy)]
-pub struct Given {
-    pub number: u8,
-    pub place: usize,
+    })
 }
 
 // The n numbers from an offset on, put on the scope from entry `top` on: 34 at the name's place where the scope is full.
@@ -69,33 +52,19 @@ pub fn numbers_given(
     name: usize,
     f: Frame,
     top: usize,
-) -> Given
+) -> Result<(), Refusal>
     requires { CanGive text.now work.old f start n top }
     ensures { NumbersGiven text.now work.old f start n name top work.new result }
 {
-    let mut i: usize = 0;
     let mut p = start;
-    while i < n {
+    for i in 0..n {
         if MOST_ENTRIES < top + i + 1 {
-            return Given {
-                number: 34,
-                place: name,
-            };
+            return Err(Reason::TextLimit.at(name));
         }
         let w = words::word_at(text, p);
-        let v = value_at(text, work, w.end, f);
-        if v.number != 0 {
-            return Given {
-                number: v.number,
-                place: v.value,
-            };
-        }
+        let v = value_at(text, work, w.end, f)?;
         entries::bind(work, top + i, 0, v.value);
         p = v.end;
-        i = i + 1;
     }
-    Given {
-        number: 0,
-        place: 0,
-    }
+    Ok(())
 }

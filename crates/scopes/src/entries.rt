@@ -46,15 +46,13 @@ pub fn first_of(text: &[u8], work: &[u16], name: usize, from: usize, to: usize) 
     ensures { result ≡ first_named text.now work.now name from (to - from) }
 {
     let long = words::same::long_of(text, name);
-    let mut e = from;
-    while e < to {
+    for e in from..to {
         let p = place_of(work, e);
         if words::same::is_name(text, name, long, p) {
             return e;
         }
-        e = e + 1;
     }
-    e
+    to
 }
 
 // Behind the last entry of the name at a place between two; or the earlier of the two.
@@ -63,15 +61,13 @@ pub fn last_of(text: &[u8], work: &[u16], name: usize, from: usize, to: usize) -
     ensures { result ≡ last_named text.now work.now name from (to - from) }
 {
     let long = words::same::long_of(text, name);
-    let mut e = to;
-    while from < e {
-        let p = place_of(work, e - 1);
+    for e in (from..to).rev() {
+        let p = place_of(work, e);
         if words::same::is_name(text, name, long, p) {
-            return e;
+            return e + 1;
         }
-        e = e - 1;
     }
-    e
+    from
 }
 
 // Behind the last entry with exactly this place between two; or the earlier of the two.
@@ -79,13 +75,11 @@ pub fn last_at(work: &[u16], place: usize, from: usize, to: usize) -> usize
     requires { (making_size ≤ length work.now) × ((to ≤ most_entries) × (from ≤ to)) }
     ensures { result ≡ last_placed work.now place from (to - from) }
 {
-    let mut e = to;
-    while from < e {
-        let p = place_of(work, e - 1);
+    for e in (from..to).rev() {
+        let p = place_of(work, e);
         if p == place {
-            return e;
+            return e + 1;
         }
-        e = e - 1;
     }
-    e
+    from
 }

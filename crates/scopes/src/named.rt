@@ -14,15 +14,13 @@ pub fn name_types(text: &[u8], work: &mut [u16], at: usize, n: usize, first: usi
     requires { (NamesThere text.now at n) × (CanName text.now work.old first n) }
     ensures { EntriesNamed text.now work.old first n work.new (bind_types (bound_from text.now at n) (values_in work.old first n)) }
 {
-    let mut i: usize = 0;
     let mut p = at;
-    while i < n {
+    for i in 0..n {
         let b = words::word_at(text, p);
         let w = words::word_at(text, b.end);
         let v = entries::value_of(work, first + i);
         entries::bind(work, first + i, w.start, v);
         p = w.end;
-        i = i + 1;
     }
 }
 
@@ -54,15 +52,13 @@ pub fn name_numbers(text: &[u8], work: &mut [u16], at: usize, n: usize, first: u
     requires { (NumbersThere text.now at n) × (CanName text.now work.old first n) }
     ensures { EntriesNamed text.now work.old first n work.new (bind_numbers (numbers_from text.now at n) (values_in work.old first n)) }
 {
-    let mut i: usize = 0;
     let mut p = at;
-    while i < n {
+    for i in 0..n {
         let k = numbers::number_behind(text, p);
         let v = entries::value_of(work, first + i);
         let place = place_for(text, k);
         let value = value_for(k, v);
         entries::bind(work, first + i, place, value);
         p = k.end;
-        i = i + 1;
     }
 }

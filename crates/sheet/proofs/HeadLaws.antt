@@ -1,38 +1,39 @@
 -- What `head_at` says, by the record that stands at an offset. Assumes nothing.
 use Prim.Native.Nat.{ℕ, zero, suc, ◌+◌, ◌-◌, ◌≤◌, ◌<◌}
-use mathlib.Core.Path.{◌≡◌, refl, sym, ap, ap₂, ◌∙◌}
+use mathlib.Core.Path.{◌≡◌, refl, sym, ap, ◌∙◌}
 use mathlib.Core.Bool.{Bool, true, false, not, ◌||◌, cond}
-use mathlib.Core.List.{List, [], ◌∷◌}
+use mathlib.Core.List.{List}
 use native.Mathlib.Omega.{arith}
 use native.Mathlib.Decide.{dec_lt}
-use denote.Enum.Declared.{tag_of}
-use types.Run.{OneOf, miss}
 use lib.Dec.{ltb, leb, eqb}
 use lib.ListN.{length}
 use borrow.Author.Tests.{lt-ltb, le-ltb, le-leb, lt-leb, leb-true, leb-false}
-use Rattle.calculus.specs.Answer.{Answer, good, ◌>>=◌, refuse, need}
+use Rattle.calculus.specs.Answer.{Refusal, Answer, good, refused, ◌>>=◌, refuse, need}
 use Rattle.calculus.specs.Terms.{Edition}
 use Rattle.calculus.specs.Read.{Kind, unknown, type, node, NodeKind, k11, k12, k13, k14, k15, k16, k17, k18, k19, k1A, k1B, knows, kind_of, node_body, node_typed, byte, head_at, read_term}
-use Rattle.records.specs.Record.{shape_of, record_of_lem, record_at, body_at}
-use Rattle.records.specs.declared.Rule.{Rule}
-use Rattle.records.specs.declared.Rule.TheVariants as rule
+use Rattle.std.specs.declared.result.Result.TheVariants.{Ok, Err}
+use Rattle.std.specs.declared.option.Option.{Option}
+use Rattle.std.specs.declared.option.Option.TheVariants.{Some, None}
+use Rattle.answers.specs.declared.Reason.{Reason}
+use Rattle.answers.specs.declared.Refusal.{Refusal as Why}
+use Rattle.answers.specs.Refusals.{said_why}
+use Rattle.records.specs.Record.{no_record, shape_of, record_of_lem, record_at, body_at}
 use Rattle.records.specs.declared.Form.{Form}
 use Rattle.records.specs.declared.Node.{Node}
 use Rattle.records.specs.declared.Shape.{Shape}
 use Rattle.records.specs.declared.Shape.TheVariants as shape
 use Rattle.records.specs.declared.Record.TheVariants as rec
-use Rattle.records.specs.contracts.Rule.{the_type as rule-type}
 use Rattle.records.proofs.Laws.{node-next}
 use Rattle.records.specs.Editions.{known_rule}
 use Rattle.sheet.specs.Said.{node_subs, opens_at, headed, opens, mistyped, limits_of_lem}
-use Rattle.sheet.proofs.KindLaws.{kind_shape, record_kind, record_past, node_rule, node_as, node-here, body-at}
+use Rattle.sheet.proofs.KindLaws.{WhatStands, kind_shape, record_kind, record_past, node_rule, node_as, node-here, body-at}
 
 -- ---- no node's record
 
-no_node_lem : {q : Node} {i p : ℕ} → rec.Node q ≡ rec.Refused i p → ⊥
+no_node_lem : {q : Node} {why : Why} → ◌≡◌ {A = WhatStands} (Ok (rec.Node q)) (Err why) → ⊥
 no_node_lem e = let z : ◌≡◌ {A = ℕ} 0 1 = cc in omega arith
 
-by_head : (E : Edition) (more : ℕ) (s : List ℕ) (types at n : ℕ) {i p : ℕ} → head_at E more s types at n ≡ refuse i p → read_term E more s types at n ≡ refuse i p
+by_head : (E : Edition) (more : ℕ) (s : List ℕ) (types at n : ℕ) {why : Refusal} → head_at E more s types at n ≡ refused why → read_term E more s types at n ≡ refused why
 unfolding read_term
 by_head E zero s types at n e = simp e
 by_head E (suc more) s types at n e = simp e
@@ -52,8 +53,8 @@ knows-long E k1A h = refl
 knows-long E k1B h = absurd (omega arith)
 
 module _ (E : Edition) (more : ℕ) (s : List ℕ) (types at n : ℕ) where
-  refused-by : {A : Type 0} {i p j q : ℕ} → rec.Refused i p ≡ rec.Refused j q → ◌≡◌ {A = Answer A} (refuse i p) (refuse j q)
-  refused-by {A} {i} {p} {j} {q} e = let a : i ≡ j = cc in let b : p ≡ q = cc in ap₂ {C = Answer A} refuse a b
+  refused-by : {A : Type 0} {why that : Why} → ◌≡◌ {A = WhatStands} (Err why) (Err that) → ◌≡◌ {A = Answer A} (refused (said_why why)) (refused (said_why that))
+  refused-by {A} {why} {that} e = let a : why ≡ that = cc in ap {B = Answer A} (λ (x : Why). refused (said_why x)) a
 
   past_end : length s ≤ at → head_at E more s types at n ≡ refuse 3 at
   unfolding head_at
@@ -63,27 +64,27 @@ module _ (E : Edition) (more : ℕ) (s : List ℕ) (types at n : ℕ) where
   unfolding head_at
   cut-here k e h c = simp (lt-ltb at (length s) h, e, knows-long E k (omega arith), lt-leb (at + 1 + node_body k) (length s) (omega arith))
 
-  head-by : (k : Kind) {i p : ℕ} → kind_of (byte s at) ≡ k → at < length s → record_of_lem true (kind_shape k) s at ≡ rec.Refused i p → head_at E more s types at n ≡ refuse i p
+  head-by : (k : Kind) {why : Why} → kind_of (byte s at) ≡ k → at < length s → record_of_lem true (kind_shape k) s at ≡ Err why → head_at E more s types at n ≡ refused (said_why why)
   unfolding head_at
   head-by unknown e h g = simp (lt-ltb at (length s) h, e) (refused-by g)
   head-by (type k) e h g = simp (lt-ltb at (length s) h, e) (refused-by g)
-  head-by (node k) {i} {p} e h g = by (leb (node_body k) (length s - (at + 1))) refl g
+  head-by (node k) {why} e h g = by (leb (node_body k) (length s - (at + 1))) refl g
     where
-      by : (t : Bool) → leb (node_body k) (length s - (at + 1)) ≡ t → cond t (rec.Node (node_as s at k)) (rec.Refused 3 at) ≡ rec.Refused i p → head_at E more s types at n ≡ refuse i p
+      by : (t : Bool) → leb (node_body k) (length s - (at + 1)) ≡ t → cond t (Ok (rec.Node (node_as s at k))) (no_record Reason.CutShort at) ≡ Err why → head_at E more s types at n ≡ refused (said_why why)
       by true f g = absurd (no_node_lem g)
       by false f g = cut-here k e h (leb-false _ _ f) ∙ refused-by g
 
   -- the refusal of a record that is due is the reader's
-  pub head_refused : {i p : ℕ} → record_at true s at ≡ rec.Refused i p → head_at E more s types at n ≡ refuse i p
-  head_refused {i} {p} e = elim (dec_lt at (length s)) [
+  pub head_refused : {why : Why} → record_at true s at ≡ Err why → head_at E more s types at n ≡ refused (said_why why)
+  head_refused e = elim (dec_lt at (length s)) [
     | yes h ↦ head-by (kind_of (byte s at)) refl h (sym (record_kind true s at _ h refl) ∙ e)
     | no h ↦ past_end (omega arith) ∙ refused-by (sym (record_past true s at (omega arith)) ∙ e)
   ]
 
-  pub term_refused : {i p : ℕ} → record_at true s at ≡ rec.Refused i p → read_term E more s types at n ≡ refuse i p
+  pub term_refused : {why : Why} → record_at true s at ≡ Err why → read_term E more s types at n ≡ refused (said_why why)
   term_refused e = by_head E more s types at n (head_refused e)
 
-  pub opens_refused : {i p : ℕ} → record_at true s at ≡ rec.Refused i p → refuse i p ≡ opens E more s types at n
+  pub opens_refused : {why : Why} → record_at true s at ≡ Err why → refused (said_why why) ≡ opens E more s types at n
   unfolding opens
   opens_refused e = sym (ap (headed at) (head_refused e))
 
@@ -139,7 +140,7 @@ limits-here E more s types at n r k h is whole same =
     rw (lt-ltb at (length s) h, is, le-leb (at + 1 + node_body k) (length s) whole, same, known_by E k, typed_by s at types k)
     (headed-chain (knows E k) (ltb n 2048) (ltb 0 more) (eqb (node_typed k) 0 || ltb (byte s (at + node_typed k)) types) at k)
 
-pub head_limits : (E : Edition) (more : ℕ) (s : List ℕ) (types at n : ℕ) (r : Node) → record_at true s at ≡ rec.Node r → limits_of_lem E r at n more types ≡ opens E more s types at n
+pub head_limits : (E : Edition) (more : ℕ) (s : List ℕ) (types at n : ℕ) (r : Node) → record_at true s at ≡ Ok (rec.Node r) → limits_of_lem E r at n more types ≡ opens E more s types at n
 head_limits E more s types at n r e =
     let l = node-next true s at e in
     let h : at < length s = omega arith in
@@ -173,48 +174,19 @@ module _ (E : Edition) (r : Node) (at n more types : ℕ) where
 
 -- ---- no type stands inside the term
 
-no_type : (s : List ℕ) (at : ℕ) (h : Shape) {f : Form} {next : ℕ} → record_of_lem true h s at ≡ rec.Type f next → ⊥
-no_type s at (shape.Type n u) e = let z : ◌≡◌ {A = ℕ} 0 1 = cc in omega arith
-no_type s at (shape.Node n m u) {f} {next} e = by (leb n (length s - (at + 1))) _ e
+no_type : (s : List ℕ) (at : ℕ) (h : Option Shape) {f : Form} {next : ℕ} → record_of_lem true h s at ≡ Ok (rec.Type f next) → ⊥
+no_type s at (Some (shape.Type n u)) e = let z : ◌≡◌ {A = ℕ} 0 1 = cc in omega arith
+no_type s at (Some (shape.Node n m u)) {f} {next} e = by (leb n (length s - (at + 1))) _ e
   where
-    by : (t : Bool) (q : Node) → cond t (rec.Node q) (rec.Refused 3 at) ≡ rec.Type f next → ⊥
+    by : (t : Bool) (q : Node) → cond t (Ok (rec.Node q)) (no_record Reason.CutShort at) ≡ Ok (rec.Type f next) → ⊥
     by true q e = let z : ◌≡◌ {A = ℕ} 0 1 = cc in omega arith
     by false q e = let z : ◌≡◌ {A = ℕ} 0 1 = cc in omega arith
-no_type s at shape.Unknown e = let z : ◌≡◌ {A = ℕ} 0 1 = cc in omega arith
+no_type s at None e = let z : ◌≡◌ {A = ℕ} 0 1 = cc in omega arith
 
-pub no_type-inside : (s : List ℕ) (at : ℕ) {f : Form} {next : ℕ} → record_at true s at ≡ rec.Type f next → ⊥
+pub no_type-inside : (s : List ℕ) (at : ℕ) {f : Form} {next : ℕ} → record_at true s at ≡ Ok (rec.Type f next) → ⊥
 unfolding record_at
 no_type-inside s at {f} {next} e = by (leb (length s) at) e
   where
-    by : (t : Bool) → cond t (rec.Refused 3 at) (record_of_lem true (shape_of (byte s at)) s at) ≡ rec.Type f next → ⊥
+    by : (t : Bool) → cond t (no_record Reason.CutShort at) (record_of_lem true (shape_of (byte s at)) s at) ≡ Ok (rec.Type f next) → ⊥
     by true e = let z : ◌≡◌ {A = ℕ} 0 1 = cc in omega arith
     by false e = no_type s at (shape_of (byte s at)) e
-
--- ---- the type number of a record, by the tags that a match on its rule leaves
-
-module _ (x y types : ℕ) where
-  pub typed_first : (u : Rule) → OneOf (2 ∷ 4 ∷ 6 ∷ 8 ∷ []) (tag_of rule-type u) → mistyped u x y types ≡ leb types x
-  typed_first rule.Variable o = absurd (miss (2 ∷ 4 ∷ 6 ∷ 8 ∷ []) 0 tt o)
-  typed_first rule.LinearVariable o = absurd (miss (2 ∷ 4 ∷ 6 ∷ 8 ∷ []) 1 tt o)
-  typed_first rule.Function o = refl
-  typed_first rule.Application o = absurd (miss (2 ∷ 4 ∷ 6 ∷ 8 ∷ []) 3 tt o)
-  typed_first rule.LinearFunction o = refl
-  typed_first rule.LinearApplication o = absurd (miss (2 ∷ 4 ∷ 6 ∷ 8 ∷ []) 5 tt o)
-  typed_first rule.Pair o = refl
-  typed_first rule.Projection o = absurd (miss (2 ∷ 4 ∷ 6 ∷ 8 ∷ []) 7 tt o)
-  typed_first rule.FixedPoint o = refl
-  typed_first rule.Constant o = absurd (miss (2 ∷ 4 ∷ 6 ∷ 8 ∷ []) 9 tt o)
-  typed_first rule.Naming o = absurd (miss (2 ∷ 4 ∷ 6 ∷ 8 ∷ []) 10 tt o)
-
-  pub typed_none : (u : Rule) → OneOf (0 ∷ 1 ∷ 3 ∷ 5 ∷ 7 ∷ 10 ∷ []) (tag_of rule-type u) → mistyped u x y types ≡ false
-  typed_none rule.Variable o = refl
-  typed_none rule.LinearVariable o = refl
-  typed_none rule.Function o = absurd (miss (0 ∷ 1 ∷ 3 ∷ 5 ∷ 7 ∷ 10 ∷ []) 2 tt o)
-  typed_none rule.Application o = refl
-  typed_none rule.LinearFunction o = absurd (miss (0 ∷ 1 ∷ 3 ∷ 5 ∷ 7 ∷ 10 ∷ []) 4 tt o)
-  typed_none rule.LinearApplication o = refl
-  typed_none rule.Pair o = absurd (miss (0 ∷ 1 ∷ 3 ∷ 5 ∷ 7 ∷ 10 ∷ []) 6 tt o)
-  typed_none rule.Projection o = refl
-  typed_none rule.FixedPoint o = absurd (miss (0 ∷ 1 ∷ 3 ∷ 5 ∷ 7 ∷ 10 ∷ []) 8 tt o)
-  typed_none rule.Constant o = absurd (miss (0 ∷ 1 ∷ 3 ∷ 5 ∷ 7 ∷ 10 ∷ []) 9 tt o)
-  typed_none rule.Naming o = refl

@@ -8,7 +8,7 @@ use borrow.Author.Tests.{le-leb, lt-leb, eq-eqb, ne_eqb}
 use lib.Dec.{eqb}
 use lib.ListN.{length, get_or, take, drop, length-append, length-drop}
 use lib.Seq.{take-length}
-use Rattle.calculus.specs.Answer.{Refusal, Answer, good, refused, ◌>>=◌, numbered, refuse, need}
+use Rattle.calculus.specs.Answer.{Refusal, Answer, good, refused, ◌>>=◌, refuse, need}
 use Rattle.calculus.proofs.Answers.{refused≢good, good-inj, refused-inj}
 use Rattle.calculus.specs.Types.{Table}
 use Rattle.calculus.specs.Terms.{Edition, first, second, is_second, opening, nodes}
@@ -18,21 +18,23 @@ use Rattle.sheet_theorems.proofs.Tables.{empty-ok}
 use Rattle.sheet_theorems.proofs.Laying.{types-listed, termed, opens}
 use Rattle.sheet_theorems.proofs.Judging.{of_refused}
 use Rattle.sheet_theorems.proofs.Places.{records-places}
+use Rattle.std.specs.declared.result.Result.{Result}
+use Rattle.std.specs.declared.result.Result.TheVariants.{Ok, Err}
+use Rattle.answers.specs.declared.Refusal.{Refusal as Why}
+use Rattle.answers.specs.Refusals.{said_why}
 use Rattle.records.specs.Told.{sizes_of}
-use Rattle.sheet.specs.Said.{Count, TypesSaid, all_types, types_of, due_of, types_in, End, end, spanned, ended_of}
-use Rattle.sheet.specs.Sheets.{ReadSaid, said_sheet, said_reading, whole_sheet, no_sheet, reading_of}
-use Rattle.sheet.specs.declared.Verdict.TheVariants as verdict
+use Rattle.sheet.specs.Said.{TypesSaid, all_types, types_of, due_of, types_in, End, end, spanned, ended_of}
+use Rattle.sheet.specs.Sheets.{ReadSaid, said_reading, whole_sheet, reading_of}
 use Rattle.sheet.specs.declared.Reading.{Reading}
 use Rattle.records.specs.Editions.{edition_by}
 use Rattle.records.specs.Record.{record_at}
 use Rattle.records.specs.declared.Record.{Record}
-use Rattle.records.specs.declared.Record.TheVariants as rec
 use Rattle.sheet.proofs.HeadLaws.{term_refused}
 
 -- ---- behind the types
 
 module _ (size types start : ℕ) (sizes : List ℕ) where
-  pub ended_refused : (a : Answer End) {number place : ℕ} → refuse number place ≡ a → no_sheet (numbered number place) ≡ ended_of a size types start sizes
+  pub ended_refused : (a : Answer End) {why : Refusal} → refused why ≡ a → refused why ≡ ended_of a size types start sizes
   unfolding ended_of
   ended_refused a e = rw (← e)
 
@@ -40,12 +42,12 @@ module _ (size types start : ℕ) (sizes : List ℕ) where
   unfolding ended_of
   ended_here a at n e h = rw (← e, eq-eqb at size h)
 
-  pub ended-more : (a : Answer End) (at n : ℕ) → end at n ≡ a → ¬ (at ≡ size) → no_sheet (numbered 9 at) ≡ ended_of a size types start sizes
+  pub ended-more : (a : Answer End) (at n : ℕ) → end at n ≡ a → ¬ (at ≡ size) → refuse 9 at ≡ ended_of a size types start sizes
   unfolding ended_of
   ended-more a at n e h = rw (← e, ne_eqb at size h)
 
 sheet-end : (E : Edition) (t : Bool) (Θ : Table) (g : Got) (start : ℕ) → g.count ≡ nodes g.term → start ≡ length (table_bytes Θ)
-    → cond t (whole_sheet (length Θ) g.count start (sizes_of Θ)) (no_sheet (numbered 9 g.next)) ≡ reading_of (need t 9 g.next >>= λ _. good (record { edition = E; table = Θ; term = g.term }))
+    → cond t (whole_sheet (length Θ) g.count start (sizes_of Θ)) (refuse 9 g.next) ≡ reading_of (need t 9 g.next >>= λ _. good (record { edition = E; table = Θ; term = g.term }))
 unfolding reading_of
 sheet-end E true Θ g start c e = rw (c, e)
 sheet-end E false Θ g start c e = refl
@@ -53,20 +55,19 @@ sheet-end E false Θ g start c e = refl
 -- ---- the records
 
 module _ (E : Edition) (s : List ℕ) where
-  types_refused_lem : (m : Answer (Table × ℕ)) (number place : ℕ) → read_types 256 s [] 0 ≡ m → refuse number place ≡ (types_of (m >>= λ q. due_of (record_at true s q.1) q)).answer
-      → no_sheet (numbered number place) ≡ reading_of (read_records E s)
+  types_refused_lem : (m : Answer (Table × ℕ)) (why : Refusal) → read_types 256 s [] 0 ≡ m → refused why ≡ types_of (m >>= λ q. due_of (record_at true s q.1) q)
+      → refused why ≡ reading_of (read_records E s)
   unfolding types_of reading_of read_records
-  types_refused_lem (refused why) number place e h = simp e (ap no_sheet (refused-inj h))
-  types_refused_lem (good q) number place e h = due (record_at true s q.1) refl h
+  types_refused_lem (refused that) why e h = simp e (ap refused (refused-inj h))
+  types_refused_lem (good q) why e h = due (record_at true s q.1) refl h
     where
-      due : (r : Record) → record_at true s q.1 ≡ r → refuse number place ≡ (types_of (due_of r q)).answer → no_sheet (numbered number place) ≡ reading_of (read_records E s)
-      due (rec.Type f next) g h = absurd (refused≢good h)
-      due (rec.Node n) g h = absurd (refused≢good h)
-      due (rec.Refused i p) g h = simp (e, term_refused E 64 s (length q.0) q.1 0 g) (ap no_sheet (refused-inj h))
+      due : (r : Result Record Why) → record_at true s q.1 ≡ r → refused why ≡ types_of (due_of r q) → refused why ≡ reading_of (read_records E s)
+      due (Ok r) g h = absurd (refused≢good h)
+      due (Err that) g h = simp (e, term_refused E 64 s (length q.0) q.1 0 g) (ap refused (refused-inj h))
 
-  pub read_types_bad : (number place : ℕ) → refuse number place ≡ (types_of (types_in s)).answer → no_sheet (numbered number place) ≡ reading_of (read_records E s)
+  pub read_types_bad : (why : Refusal) → refused why ≡ types_of (types_in s) → refused why ≡ reading_of (read_records E s)
   unfolding types_in
-  read_types_bad number place h = types_refused_lem (read_types 256 s [] 0) number place refl h
+  read_types_bad why h = types_refused_lem (read_types 256 s [] 0) why refl h
 
   -- the term, behind a table that ends at an offset
   term_read : (Θ : Table) (start : ℕ) (m : Answer Got) → read_types 256 s [] 0 ≡ good (Θ, start) → read_term E 64 s (length Θ) start 0 ≡ m
@@ -81,21 +82,20 @@ module _ (E : Edition) (s : List ℕ) where
   types-good : (m : Answer (Table × ℕ)) (count start : ℕ) (sizes : List ℕ) → read_types 256 s [] 0 ≡ m → all_types count start sizes ≡ types_of (m >>= λ q. due_of (record_at true s q.1) q)
       → ended_of (spanned (read_term E 64 s count start 0)) (length s) count start sizes ≡ reading_of (read_records E s)
   unfolding types_of
-  types-good (refused why) count start sizes e h = absurd (refused≢good (sym (ap (λ (t : TypesSaid). t.answer) h)))
+  types-good (refused why) count start sizes e h = absurd (refused≢good (sym h))
   types-good (good q) count start sizes e h = due (record_at true s q.1) h
     where
       goes : all_types count start sizes ≡ types_of (good q) → ended_of (spanned (read_term E 64 s count start 0)) (length s) count start sizes ≡ reading_of (read_records E s)
       goes h =
-          let f = good-inj (ap (λ (t : TypesSaid). t.answer) h) in
-          let a : count ≡ length q.0 = ap (λ (c : Count). c.count) f in
-          let b : start ≡ q.1 = ap (λ (c : Count). c.end) f in
-          let z : sizes ≡ sizes_of q.0 = ap (λ (t : TypesSaid). t.sizes) h in
+          let f = good-inj h in
+          let a : count ≡ length q.0 = ap (λ (c : TypesSaid). c.count) f in
+          let b : start ≡ q.1 = ap (λ (c : TypesSaid). c.end) f in
+          let z : sizes ≡ sizes_of q.0 = ap (λ (c : TypesSaid). c.sizes) f in
           rw (a, b, z) (term_read q.0 q.1 _ e refl)
 
-      due : (r : Record) → all_types count start sizes ≡ types_of (due_of r q) → ended_of (spanned (read_term E 64 s count start 0)) (length s) count start sizes ≡ reading_of (read_records E s)
-      due (rec.Type f next) h = goes h
-      due (rec.Node n) h = goes h
-      due (rec.Refused i p) h = absurd (refused≢good (sym (ap (λ (t : TypesSaid). t.answer) h)))
+      due : (r : Result Record Why) → all_types count start sizes ≡ types_of (due_of r q) → ended_of (spanned (read_term E 64 s count start 0)) (length s) count start sizes ≡ reading_of (read_records E s)
+      due (Ok r) h = goes h
+      due (Err why) h = absurd (refused≢good (sym h))
 
   pub read_types_good : (count start : ℕ) (sizes : List ℕ) → all_types count start sizes ≡ types_of (types_in s)
       → ended_of (spanned (read_term E 64 s count start 0)) (length s) count start sizes ≡ reading_of (read_records E s)
@@ -146,37 +146,37 @@ take_rest n s = rw (← length-drop n s) (take-length (drop n s))
 -- ---- the sheet
 
 module _ (s : List ℕ) where
-  pub read-long : 16384 < length s → no_sheet (numbered 2 0) ≡ reading_of (read_sheet s)
+  pub read-long : 16384 < length s → refuse 2 0 ≡ reading_of (read_sheet s)
   unfolding reading_of read_sheet
   read-long h = simp (lt-leb (length s) 16384 h)
 
-  module _ (short : length s ≤ 16384) (r : Reading) where
-    offset_good : (m : Answer Sheet) {types n start : ℕ} → read_records (edition_of s) (records_of s) ≡ m → said_reading r ≡ reading_of m → r.verdict ≡ verdict.Read types n start → said_reading r ≡ reading_of (read_sheet s)
+  module _ (short : length s ≤ 16384) where
+    offset_good : (m : Answer Sheet) {r : ReadSaid} → read_records (edition_of s) (records_of s) ≡ m → good r ≡ reading_of m → good r ≡ reading_of (read_sheet s)
     unfolding reading_of read_sheet
-    offset_good (good σ) e h v = simp (le-leb (length s) 16384 short, e) h
-    offset_good (refused why) e h v = absurd (refused≢good (sym (ap said_sheet (sym v) ∙ ap (λ (x : ReadSaid). x.answer) h)))
+    offset_good (good σ) e h = simp (le-leb (length s) 16384 short, e) h
+    offset_good (refused why) e h = absurd (refused≢good (sym h))
 
-    offset-bad : (m : Answer Sheet) {number place : ℕ} → read_records (edition_of s) (records_of s) ≡ m → said_reading r ≡ reading_of m → r.verdict ≡ verdict.Refused number place
-        → (m ≡ refuse number place) × (no_sheet (numbered number (length (opening (edition_of s)) + place)) ≡ reading_of (read_sheet s))
+    offset-bad : (m : Answer Sheet) {why : Refusal} → read_records (edition_of s) (records_of s) ≡ m → refused why ≡ reading_of m
+        → (m ≡ refused why) × (refused (record { number = why.number; place = length (opening (edition_of s)) + why.place; wanted = why.wanted; found = why.found }) ≡ reading_of (read_sheet s))
     unfolding reading_of read_sheet
-    offset-bad (good σ) e h v = absurd (refused≢good (ap said_sheet (sym v) ∙ ap (λ (x : ReadSaid). x.answer) h))
-    offset-bad (refused why) {number} {place} e h v =
-        let f : numbered number place ≡ why = refused-inj (ap said_sheet (sym v) ∙ ap (λ (x : ReadSaid). x.answer) h) in
-        (ap refused (sym f), simp (le-leb (length s) 16384 short, e) (ap (λ (why : Refusal). no_sheet (record { number = why.number; place = length (opening (edition_of s)) + why.place; wanted = why.wanted; found = why.found })) f))
+    offset-bad (good σ) e h = absurd (refused≢good h)
+    offset-bad (refused that) {why} e h =
+        let f : why ≡ that = refused-inj h in
+        (ap refused (sym f), simp (le-leb (length s) 16384 short, e) (ap (λ (why : Refusal). refused (record { number = why.number; place = length (opening (edition_of s)) + why.place; wanted = why.wanted; found = why.found })) f))
 
     -- the records as they were read, of the edition that was told
-    module _ {b : Bool} {rs : List ℕ} (tells : b ≡ is_second (edition_of s)) (behind : rs ≡ records_of s) (said : said_reading r ≡ reading_of (read_records (edition_by b) rs)) where
+    module _ (r : Result Reading Why) {b : Bool} {rs : List ℕ} (tells : b ≡ is_second (edition_of s)) (behind : rs ≡ records_of s) (said : said_reading r ≡ reading_of (read_records (edition_by b) rs)) where
       records-said : said_reading r ≡ reading_of (read_records (edition_of s) (records_of s))
       records-said = rw (← edition_by_lem (edition_of s), ← tells, ← behind) said
 
-      pub read-good : {types n start : ℕ} → r.verdict ≡ verdict.Read types n start → said_reading r ≡ reading_of (read_sheet s)
-      read-good v = offset_good _ refl records-said v
+      pub read-good : {q : Reading} → r ≡ Ok q → said_reading (Ok q) ≡ reading_of (read_sheet s)
+      read-good v = offset_good _ refl (ap said_reading (sym v) ∙ records-said)
 
-      module _ {number place : ℕ} (v : r.verdict ≡ verdict.Refused number place) where
-        pub read-bad : no_sheet (numbered number (length (opening (edition_of s)) + place)) ≡ reading_of (read_sheet s)
-        read-bad = (offset-bad _ refl records-said v).1
+      module _ {why : Why} (v : r ≡ Err why) where
+        pub read-bad : refused (record { number = (said_why why).number; place = length (opening (edition_of s)) + why.place; wanted = why.wanted; found = why.found }) ≡ reading_of (read_sheet s)
+        read-bad = (offset-bad _ refl (ap said_reading (sym v) ∙ records-said)).1
 
-        pub read-within : place ≤ 16384
+        pub read-within : why.place ≤ 16384
         read-within =
-            let o = of_refused _ (numbered number place) (records-places (edition_of s) (records_of s)) (offset-bad _ refl records-said v).0 in
+            let o = of_refused _ (said_why why) (records-places (edition_of s) (records_of s)) (offset-bad _ refl (ap said_reading (sym v) ∙ records-said)).0 in
             omega (arith, o.within, ap length (opens s), length-append (opening (edition_of s)) (records_of s))

@@ -4,9 +4,10 @@ use mathlib.Core.Path.{◌≡◌, refl, sym, ap, subst, ◌∙◌}
 use mathlib.Core.Bool.{◌||◌}
 use mathlib.Core.List.{List}
 use native.Mathlib.Omega.{arith}
+use native.Mathlib.Decide.{dec_lt}
 use lib.Dec.{ltb, leb, eqb, ltb→lt, leb→le}
 use lib.ListN.{length, replicate, length-replicate}
-use Rattle.calculus.specs.Answer.{Answer, good, refused, ◌>>=◌, refuse}
+use Rattle.calculus.specs.Answer.{Refusal, Answer, good, refused, ◌>>=◌}
 use Rattle.calculus.proofs.Answers.{refused≢good, good-inj, refused-inj, on-bind, on-need}
 use Rattle.calculus.specs.Terms.{Edition, Term, fun, app, lfun, lapp, pair, proj, fix, name}
 use Rattle.calculus.specs.Read.{kind_of, NodeKind, k11, k12, k13, k14, k15, k16, k17, k18, k19, k1A, k1B, knows, node_body, node_typed, node_kind, byte, head_at, Got, got, node_of_kind, read_term}
@@ -76,9 +77,9 @@ headed_good at (good k) p q e =
     (k, refl, ap (λ (o : HeadSaid). o.next) f, ap (λ (o : HeadSaid). o.subterms) f)
 headed_good at (refused why) p q e = absurd (refused≢good (sym e))
 
-headed_bad : (at : ℕ) (m : Answer NodeKind) (a b : ℕ) → ◌≡◌ {A = Answer HeadSaid} (refuse a b) (headed at m) → m ≡ refuse a b
-headed_bad at (good k) a b e = absurd (refused≢good e)
-headed_bad at (refused why) a b e = ap refused (sym (refused-inj e))
+headed_bad : (at : ℕ) (m : Answer NodeKind) (why : Refusal) → ◌≡◌ {A = Answer HeadSaid} (refused why) (headed at m) → m ≡ refused why
+headed_bad at (good k) why e = absurd (refused≢good e)
+headed_bad at (refused that) why e = ap refused (sym (refused-inj e))
 
 -- the count and the depth are within the limits, and the record within the sheet
 pub record InLimits (more : ℕ) (s : List ℕ) (at n next : ℕ) : Type 0 where
@@ -107,10 +108,10 @@ module _ (E : Edition) (s : List ℕ) (types at n : ℕ) where
   read_step k zero h e = absurd (omega arith)
   read_step k (suc m) h e = let p : suc m - 1 ≡ m = omega arith in simp (e, p)
 
-  read-bad : (a b m : ℕ) → head_at E m s types at n ≡ refuse a b → ◌≡◌ {A = Answer End} (refuse a b) (spanned (read_term E m s types at n))
+  read-bad : (why : Refusal) (m : ℕ) → head_at E m s types at n ≡ refused why → ◌≡◌ {A = Answer End} (refused why) (spanned (read_term E m s types at n))
   unfolding read_term spanned
-  read-bad a b zero h = simp h
-  read-bad a b (suc m) h = simp h
+  read-bad why zero h = simp h
+  read-bad why (suc m) h = simp h
 
 module _ (E : Edition) (more : ℕ) (s : List ℕ) (types at n : ℕ) where
   pub open_tells : {p q : ℕ} → opens_at p q ≡ opens E more s types at n → InLimits more s at n p
@@ -119,9 +120,9 @@ module _ (E : Edition) (more : ℕ) (s : List ℕ) (types at n : ℕ) where
       let (k, h, i, j) = headed_good at (head_at E more s types at n) p q e in
       rw i at (head_tells E more s types at n k h)
 
-  pub span_bad : {a b : ℕ} → ◌≡◌ {A = Answer HeadSaid} (refuse a b) (opens E more s types at n) → ◌≡◌ {A = Answer End} (refuse a b) (spanned (read_term E more s types at n))
+  pub span_bad : {why : Refusal} → ◌≡◌ {A = Answer HeadSaid} (refused why) (opens E more s types at n) → ◌≡◌ {A = Answer End} (refused why) (spanned (read_term E more s types at n))
   unfolding opens
-  span_bad {a} {b} e = read-bad E s types at n a b more (headed_bad at (head_at E more s types at n) a b e)
+  span_bad {why} e = read-bad E s types at n why more (headed_bad at (head_at E more s types at n) why e)
 
   -- the node that a record opens
   opened-node : {p q : ℕ} → opens_at p q ≡ opens E more s types at n → (k : NodeKind) × (node_subs k ≡ q)
@@ -151,9 +152,12 @@ module _ (E : Edition) (more : ℕ) (s : List ℕ) (types at n : ℕ) where
       → end b c ≡ spanned (read_term E (more - 1) s types p (n + 1)) → spanned (read_term E (more - 1) s types b c) ≡ spanned (read_term E more s types at n)
   span_two_good e x y h = ap (λ (m : Answer End). m >>= λ e. spanned (read_term E (more - 1) s types e.at e.count)) h ∙ span-two e x y
 
-  pub span_two_bad : {p q a b : ℕ} → opens_at p q ≡ opens E more s types at n → ¬ (q ≡ 0) → ¬ (q ≡ 1)
-      → ◌≡◌ {A = Answer End} (refuse a b) (spanned (read_term E (more - 1) s types p (n + 1))) → ◌≡◌ {A = Answer End} (refuse a b) (spanned (read_term E more s types at n))
-  span_two_bad e x y h = ap (λ (m : Answer End). m >>= λ e. spanned (read_term E (more - 1) s types e.at e.count)) h ∙ span-two e x y
+  pub span_first_bad : {p q : ℕ} {why : Refusal} → opens_at p q ≡ opens E more s types at n → ¬ (q ≡ 0)
+      → ◌≡◌ {A = Answer End} (refused why) (spanned (read_term E (more - 1) s types p (n + 1))) → ◌≡◌ {A = Answer End} (refused why) (spanned (read_term E more s types at n))
+  span_first_bad {q = q} e x h = elim (dec_lt q 2) [
+    | yes l ↦ h ∙ span_one e (omega arith)
+    | no l ↦ ap (λ (m : Answer End). m >>= λ e. spanned (read_term E (more - 1) s types e.at e.count)) h ∙ span-two e x (λ z. omega arith)
+  ]
 
 -- a term ends behind its start
 rises : (E : Edition) (more : ℕ) (s : List ℕ) (types at n : ℕ) (g : Got) → read_term E more s types at n ≡ good g → at < g.next

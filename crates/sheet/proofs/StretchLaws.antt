@@ -7,7 +7,7 @@ use native.Mathlib.Omega.{arith}
 use native.Mathlib.Numerals.{add-one}
 use native.Mathlib.Decide.{dec_lt}
 use lib.ListN.{length, get_or}
-use Rattle.calculus.specs.Answer.{Answer, good, refused, refuse}
+use Rattle.calculus.specs.Answer.{Refusal, Answer, good, refused}
 use Rattle.calculus.proofs.Answers.{refused≢good, good-inj}
 use Rattle.calculus.specs.Terms.{Edition, is_second, opening, nodes}
 use Rattle.calculus.specs.Read.{Kind, read_term, Sheet, edition_of, read_sheet}
@@ -15,6 +15,7 @@ use Rattle.calculus.specs.Stretch.{term_start, nowhere, stretch_of}
 use Rattle.sheet_theorems.specs.Subterms.{subterms, body_of, after_record, skip}
 use Rattle.sheet_theorems.proofs.StretchHolds.{skip-next, stretch-holds, stretch-past, stretch_refused}
 use Rattle.sheet_theorems.proofs.SubtermRead.{stretch-read}
+use Rattle.std.specs.declared.result.Result.TheVariants.{Ok}
 use Rattle.records.specs.Record.{record_at, node_at}
 use Rattle.records.specs.declared.Node.{Node}
 use Rattle.records.specs.declared.Record.TheVariants as rec
@@ -34,7 +35,7 @@ after-here : (s : List ℕ) (at : ℕ) (r : Node) → NodeHere s at r → r.next
 after-here s at r w = ap (λ (x : Node). x.next) w.same ∙ ap (λ (k : Kind). at + 1 + body_of k) (sym w.kind_is)
 
 -- the record of a node ends where the next begins
-after-node : (s : List ℕ) (at : ℕ) (r : Node) → record_at true s at ≡ rec.Node r → r.next ≡ after_record s at
+after-node : (s : List ℕ) (at : ℕ) (r : Node) → record_at true s at ≡ Ok (rec.Node r) → r.next ≡ after_record s at
 after-node s at r e = let l = node-next true s at e in after-here s at r (node-here s at (omega arith) r e)
 
 pub skip-more : (s : List ℕ) (start n k at : ℕ) {r : Node} → NodesFrom s start n → k < n → at ≡ skip s k start → r ≡ node_at s at → r.next ≡ skip s (k + 1) start
@@ -84,8 +85,8 @@ module _ {s sizes : List ℕ} {types n start : ℕ} (t : Told s sizes types n st
         let z : b - at ≡ (stretch_of s k).size = omega arith in
         (omega arith, ap₂ (λ (x y : ℕ). record { start = x; size = y }) (start-there at e) z)
 
-    pub told-read : (at number place : ℕ) → at ≡ skip s k from → refuse number place ≡ spanned (read_term E 64 s types at 0) → ⊥
-    told-read at number place e f = refused≢good (f ∙ there at e)
+    pub told-read : (at : ℕ) (why : Refusal) → at ≡ skip s k from → refused why ≡ spanned (read_term E 64 s types at 0) → ⊥
+    told-read at why e f = refused≢good (f ∙ there at e)
 
 -- ---- within the sheet
 

@@ -7,11 +7,9 @@ use native.Mathlib.Omega.{arith}
 use native.Mathlib.Decide.{dec_lt}
 use borrow.Author.Tests.{lt-ltb, le-ltb, le-leb, lt-leb}
 use lib.Dec.{ltb, ltb→lt}
-use denote.Enum.Declared.{tag_of}
-use types.Run.{OneOf, miss}
 use lib.ListN.{length, set, length-append, get_or-eq_default}
 use lib.Seq.{get_or_at}
-use Rattle.calculus.specs.Answer.{Answer, good, refused, ◌>>=◌, numbered, refuse}
+use Rattle.calculus.specs.Answer.{Refusal, Answer, good, refused, ◌>>=◌, refuse}
 use Rattle.calculus.proofs.Answers.{good-inj, on-bind, on-need}
 use Rattle.calculus.specs.Types.{size, TyRec, rec01, Table, ty_of, tys_from}
 use Rattle.calculus.specs.Read.{Kind, unknown, type, node, TypeKind, k01, k02, k03, k04, kind_of, byte, type_body, type_rec, check_type, read_types}
@@ -21,17 +19,20 @@ use Rattle.sheet_theorems.proofs.KindBytes.{type_byte, type_byte_lem}
 use Rattle.sheet_theorems.proofs.Tables.{checked, empty-ok}
 use Rattle.sheet_theorems.proofs.Laying.{table_snoc, rec-length}
 use Rattle.sheet_theorems.proofs.TypeOffsets.{record_zero, record_later, table-length}
+use Rattle.std.specs.declared.result.Result.TheVariants.{Ok, Err}
+use Rattle.answers.specs.declared.Reason.{Reason}
+use Rattle.answers.specs.declared.Refusal.{Refusal as Why}
+use Rattle.answers.specs.Refusals.{said_why}
 use Rattle.records.specs.Forms.{rec_of, rec_in}
 use Rattle.records.proofs.FormLaws.{rec-first, rec-later, rec-long}
-use Rattle.records.specs.Record.{record_at}
+use Rattle.records.specs.Record.{no_record, record_at}
 use Rattle.records.specs.declared.Form.{Form}
-use Rattle.records.specs.declared.Record.{Record}
+use Rattle.records.specs.declared.Node.{Node}
 use Rattle.records.specs.declared.Record.TheVariants as rec
-use Rattle.records.specs.contracts.Record.{the_type}
 use Rattle.records.specs.Told.{sizes_of}
 use Rattle.sheet.specs.Tables.{table_in, Before, size_of}
-use Rattle.sheet.specs.Said.{all_types, no_types, types_of, types_end, due_of, types_in}
-use Rattle.sheet.proofs.KindLaws.{TypeHere, type_cut, record_kind, record_past}
+use Rattle.sheet.specs.Said.{TypesSaid, all_types, types_of, due_of, types_in}
+use Rattle.sheet.proofs.KindLaws.{WhatStands, NoType, TypeHere, type_cut, record_kind, record_past}
 use Rattle.sheet.proofs.TableLaws.{table_more, table-count, sizes-more}
 
 -- ---- one record of `read_types`
@@ -155,46 +156,49 @@ module _ (s : List ℕ) (at : ℕ) {f : Form} {next : ℕ} (t : TypeHere s at f 
         let c : length Θ ≡ count = table-count s count in
         rec-here count i.before.ok (checked Θ q at tt i.before.ok (omega arith) ok) i.end
 
-    pub type_refused : (number place : ℕ) → refuse number place ≡ size_of Θ q at → no_types (numbered number place) ≡ types_of (types_in s)
+    pub type_refused : (why : Refusal) → refused why ≡ size_of Θ q at → refused why ≡ types_of (types_in s)
     unfolding types_of types_in
-    type_refused number place e = rw (went, ← e)
+    type_refused why e = rw (went, ← e)
 
 -- ---- the end of the types
 
-types_refused_lem : (s : List ℕ) (at count : ℕ) (sizes : List ℕ) → read_types 256 s [] 0 ≡ refuse 3 at → types_end (rec.Refused 3 at) at count sizes ≡ types_of (types_in s)
-unfolding types_end types_of types_in
+-- where no type's record stands: a node's ends the types, and a refusal is the sheet's
+abbrev types_end : WhatStands → ℕ → ℕ → List ℕ → Answer TypesSaid
+types_end (Ok r) at n sizes = all_types n at sizes
+types_end (Err why) at n sizes = refused (said_why why)
+
+types_refused_lem : (s : List ℕ) (at count : ℕ) (sizes : List ℕ) → read_types 256 s [] 0 ≡ refuse 3 at → types_end (no_record Reason.CutShort at) at count sizes ≡ types_of (types_in s)
+unfolding types_of types_in
 types_refused_lem s at count sizes e = rw e
 
 module _ (s : List ℕ) (at count : ℕ) (sizes : List ℕ) (i : SoFar s at count sizes) where
   -- the types are read, and this record is due behind them
-  ended : (r : Record) → types_end r at count sizes ≡ types_of (due_of r (table_in s count, at))
-  unfolding types_end types_of
-  ended (rec.Type f next) = rw (table-count s count, i.before.sizes_are)
-  ended (rec.Node n) = rw (table-count s count, i.before.sizes_are)
-  ended (rec.Refused number place) = refl
+  ended : (r : WhatStands) → types_end r at count sizes ≡ types_of (due_of r (table_in s count, at))
+  unfolding types_of
+  ended (Ok r) = rw (table-count s count, i.before.sizes_are)
+  ended (Err why) = refl
 
-  all_read : {r : Record} → read_types (256 - count) s (table_in s count) at ≡ good (table_in s count, at) → r ≡ record_at true s at → types_end r at count sizes ≡ types_of (types_in s)
+  all_read : {r : WhatStands} → read_types (256 - count) s (table_in s count) at ≡ good (table_in s count, at) → r ≡ record_at true s at → types_end r at count sizes ≡ types_of (types_in s)
   unfolding types_in
   all_read {r} e h = ended r ∙ rw (i.left, e, ← h) refl
 
-  stop : (k : Kind) {r : Record} → kind_of (byte s at) ≡ k → at < length s → r ≡ record_at false s at → OneOf (1 ∷ 2 ∷ []) (tag_of the_type r) → types_end r at count sizes ≡ types_of (types_in s)
+  stop : (k : Kind) {r : WhatStands} → kind_of (byte s at) ≡ k → at < length s → r ≡ record_at false s at → NoType r → types_end r at count sizes ≡ types_of (types_in s)
   stop unknown e h g o = all_read (types-none s (table_in s count) at (256 - count) e) (g ∙ record_kind false s at unknown h e ∙ sym (record_kind true s at unknown h e))
   stop (node k) e h g o = all_read (types-node s (table_in s count) at (256 - count) e) (g ∙ record_kind false s at (node k) h e ∙ sym (record_kind true s at (node k) h e))
   stop (type k) {r} e h g o = let c = type_cut s at k h e g o in rw c.0 (cut_off (i.left ∙ types-cut s (table_in s count) at (256 - count) k e c.1))
     where
-      cut_off : read_types 256 s [] 0 ≡ refuse 3 at → types_end (rec.Refused 3 at) at count sizes ≡ types_of (types_in s)
+      cut_off : read_types 256 s [] 0 ≡ refuse 3 at → types_end (no_record Reason.CutShort at) at count sizes ≡ types_of (types_in s)
       cut_off e = types_refused_lem s at count sizes e
 
   -- where no type record stands
-  pub types-stop : {r : Record} → r ≡ record_at false s at → OneOf (1 ∷ 2 ∷ []) (tag_of the_type r) → types_end r at count sizes ≡ types_of (types_in s)
+  types-stop : {r : WhatStands} → r ≡ record_at false s at → NoType r → types_end r at count sizes ≡ types_of (types_in s)
   types-stop {r} g o = elim (dec_lt at (length s)) [
     | yes h ↦ stop (kind_of (byte s at)) refl h g o
     | no h ↦ all_read (types-none s (table_in s count) at (256 - count) (rw (get_or-eq_default s 0 {n = at} (omega arith)))) (g ∙ record_past false s at (omega arith) ∙ sym (record_past true s at (omega arith)))
   ]
 
--- a record that is no refusal
-pub end_none : (r : Record) (at n : ℕ) (sizes : List ℕ) → OneOf (0 ∷ 1 ∷ []) (tag_of the_type r) → types_end r at n sizes ≡ all_types n at sizes
-unfolding types_end
-end_none (rec.Type f next) at n sizes o = refl
-end_none (rec.Node r) at n sizes o = refl
-end_none (rec.Refused number place) at n sizes o = absurd (miss (0 ∷ 1 ∷ []) 2 tt o)
+  pub types-cut_off : {why : Why} → record_at false s at ≡ Err why → refused (said_why why) ≡ types_of (types_in s)
+  types-cut_off e = types-stop (sym e) tt
+
+  pub types-done : {n : Node} → record_at false s at ≡ Ok (rec.Node n) → all_types count at sizes ≡ types_of (types_in s)
+  types-done e = types-stop (sym e) tt

@@ -1,67 +1,46 @@
 -- What the answers on type records, nodes' records and terms say, in the terms of the definitions: one case for each variant. Assumes nothing.
-use Rattle.std.specs.Prelude.{ℕ, ◌+◌, Bool, true, false, not, cond, List, [], ltb, leb, eqb, length}
-use Rattle.calculus.specs.Answer.{Refusal, Answer, good, refused, ◌>>=◌, numbered, refuse, need}
+use Rattle.std.specs.Prelude.{ℕ, ◌+◌, Bool, true, false, not, cond, Result, Ok, Err, List, [], ltb, leb, eqb, length}
+use Rattle.calculus.specs.Answer.{Answer, good, refused, ◌>>=◌, refuse, need}
 use Rattle.calculus.specs.Types.{Table}
 use Rattle.calculus.specs.Terms.{Edition}
 use Rattle.calculus.specs.Read.{NodeKind, k11, k12, k13, k14, k15, k16, k17, k18, k19, k1A, k1B, node_body, read_types, head_at, Got}
 use Rattle.records.specs.Told.{sizes_of}
-use Rattle.sheet.specs.Sheets.{ReadSaid, whole_sheet, no_sheet}
-use Rattle.sheet.specs.declared.types.Listed.{Listed}
-use Rattle.sheet.specs.declared.types.Listed.TheVariants as listed
+use Rattle.sheet.specs.Sheets.{ReadSaid, whole_sheet}
+use Rattle.answers.specs.declared.Refusal.{Refusal}
+use Rattle.answers.specs.Refusals.{said_why}
 use Rattle.sheet.specs.declared.types.Types.{Types}
 use Rattle.sheet.specs.declared.term.Head.{Head}
-use Rattle.sheet.specs.declared.term.Head.TheVariants as head
 use Rattle.sheet.specs.declared.term.Span.{Span}
-use Rattle.sheet.specs.declared.term.Span.TheVariants as span
 use Rattle.records.specs.declared.Rule.{Rule}
 use Rattle.records.specs.declared.Rule.TheVariants as rule
 use Rattle.records.specs.declared.Node.{Node}
 use Rattle.records.specs.declared.Record.{Record}
-use Rattle.records.specs.declared.Record.TheVariants as rec
 use Rattle.records.specs.Record.{record_at}
 use Rattle.records.specs.Editions.{known_rule}
 
 -- ---- the type records
 
--- their number, and the offset past them
-pub record Count : Type 0 where
+-- their number, the offset past them, and the sizes of the types
+pub record TypesSaid : Type 0 where
   pub count : ℕ
   pub end : ℕ
-
--- .. or a refusal, and the sizes of the types
-pub record TypesSaid : Type 0 where
-  pub answer : Answer Count
   pub sizes : List ℕ
 
-abbrev pub said_listed : Listed → Answer Count
-said_listed (listed.All n at) = good (record { count = n; end = at })
-said_listed (listed.Refused number place) = refuse number place
+abbrev pub all_types : ℕ → ℕ → List ℕ → Answer TypesSaid
+all_types n at sizes = good (record { count = n; end = at; sizes = sizes })
 
-abbrev pub said_types : Types → TypesSaid
-said_types t = record { answer = said_listed t.listed; sizes = t.sizes }
+abbrev pub said_types : Result Types Refusal → Answer TypesSaid
+said_types (Ok t) = all_types t.count t.end t.sizes
+said_types (Err why) = refused (said_why why)
 
-abbrev pub all_types : ℕ → ℕ → List ℕ → TypesSaid
-all_types n at sizes = record { answer = good (record { count = n; end = at }); sizes = sizes }
-
--- no sizes where the types are refused
-abbrev pub no_types : Refusal → TypesSaid
-no_types why = record { answer = refused why; sizes = sizes_of [] }
-
-unfoldable pub types_of : Answer (Table × ℕ) → TypesSaid
+unfoldable pub types_of : Answer (Table × ℕ) → Answer TypesSaid
 types_of (good r) = all_types (length r.0) r.1 (sizes_of r.0)
-types_of (refused why) = no_types why
-
--- where no type's record stands: a node's ends the types, and a refusal is the sheet's
-unfoldable pub types_end : Record → ℕ → ℕ → List ℕ → TypesSaid
-types_end (rec.Type f next) at n sizes = all_types n at sizes
-types_end (rec.Node r) at n sizes = all_types n at sizes
-types_end (rec.Refused number place) at n sizes = no_types (numbered number place)
+types_of (refused why) = refused why
 
 -- behind the types a node's record is due
-abbrev pub due_of : Record → Table × ℕ → Answer (Table × ℕ)
-due_of (rec.Type f next) q = good q
-due_of (rec.Node r) q = good q
-due_of (rec.Refused number place) q = refuse number place
+abbrev pub due_of : Result Record Refusal → Table × ℕ → Answer (Table × ℕ)
+due_of (Ok r) q = good q
+due_of (Err why) q = refused (said_why why)
 
 unfoldable pub types_in : List ℕ → Answer (Table × ℕ)
 types_in s = read_types 256 s [] 0 >>= λ q. due_of (record_at true s q.1) q
@@ -90,9 +69,9 @@ pub record HeadSaid : Type 0 where
 abbrev pub opens_at : ℕ → ℕ → Answer HeadSaid
 opens_at next n = good (record { next = next; subterms = n })
 
-abbrev pub said_head : Head → Answer HeadSaid
-said_head (head.Opens next n) = opens_at next n
-said_head (head.Refused number place) = refuse number place
+abbrev pub said_head : Result Head Refusal → Answer HeadSaid
+said_head (Ok h) = opens_at h.next h.subterms
+said_head (Err why) = refused (said_why why)
 
 abbrev pub headed : ℕ → Answer NodeKind → Answer HeadSaid
 headed at (good k) = opens_at (at + 1 + node_body k) (node_subs k)
@@ -134,9 +113,9 @@ pub record End : Type 0 where
 abbrev pub end : ℕ → ℕ → Answer End
 end a c = good (record { at = a; count = c })
 
-abbrev pub said_span : Span → Answer End
-said_span (span.Next a c) = end a c
-said_span (span.Refused number place) = refuse number place
+abbrev pub said_span : Result Span Refusal → Answer End
+said_span (Ok s) = end s.next s.nodes
+said_span (Err why) = refused (said_why why)
 
 unfoldable pub spanned : Answer Got → Answer End
 spanned (good g) = end g.next g.count
@@ -145,6 +124,6 @@ spanned (refused why) = refused why
 -- ---- the sheet behind its types
 
 -- behind the types: the term's end is the sheet's
-unfoldable pub ended_of : Answer End → ℕ → ℕ → ℕ → List ℕ → ReadSaid
-ended_of (good e) size types start sizes = cond (eqb e.at size) (whole_sheet types e.count start sizes) (no_sheet (numbered 9 e.at))
-ended_of (refused why) size types start sizes = no_sheet why
+unfoldable pub ended_of : Answer End → ℕ → ℕ → ℕ → List ℕ → Answer ReadSaid
+ended_of (good e) size types start sizes = cond (eqb e.at size) (whole_sheet types e.count start sizes) (refuse 9 e.at)
+ended_of (refused why) size types start sizes = refused why

@@ -1,46 +1,35 @@
 -- What `read` and `stretch_bounds` answer, in the terms of the definitions: one case for each variant. Assumes nothing.
-use Rattle.std.specs.Prelude.{ℕ, List, [], length}
-use Rattle.calculus.specs.Answer.{Refusal, Answer, good, refused, refuse}
+use Rattle.std.specs.Prelude.{ℕ, Result, Ok, Err, List, length}
+use Rattle.calculus.specs.Answer.{Answer, good, refused}
 use Rattle.calculus.specs.Terms.{nodes}
 use Rattle.calculus.specs.Read.{Sheet}
 use Rattle.calculus.specs.Write.{table_bytes}
 use Rattle.calculus.specs.Stretch.{Stretch}
 use Rattle.records.specs.Told.{sizes_of}
-use Rattle.sheet.specs.declared.Verdict.{Verdict}
-use Rattle.sheet.specs.declared.Verdict.TheVariants as verdict
+use Rattle.answers.specs.declared.Refusal.{Refusal}
+use Rattle.answers.specs.Refusals.{said_why}
 use Rattle.sheet.specs.declared.Reading.{Reading}
 use Rattle.sheet.specs.declared.Bounds.{Bounds}
 
 -- ---- a sheet
 
--- its number of types, its number of nodes, and where its term begins behind the opening
-pub record SheetCounts : Type 0 where
+-- its number of types, its number of nodes, where its term begins behind the opening, and the sizes of its types
+pub record ReadSaid : Type 0 where
   pub types : ℕ
   pub nodes : ℕ
   pub start : ℕ
-
--- .. or a refusal, and the sizes of its types
-pub record ReadSaid : Type 0 where
-  pub answer : Answer SheetCounts
   pub sizes : List ℕ
 
-abbrev pub said_sheet : Verdict → Answer SheetCounts
-said_sheet (verdict.Read types n start) = good (record { types = types; nodes = n; start = start })
-said_sheet (verdict.Refused number place) = refuse number place
+abbrev pub whole_sheet : ℕ → ℕ → ℕ → List ℕ → Answer ReadSaid
+whole_sheet types n start sizes = good (record { types = types; nodes = n; start = start; sizes = sizes })
 
-abbrev pub said_reading : Reading → ReadSaid
-said_reading r = record { answer = said_sheet r.verdict; sizes = r.sizes }
+abbrev pub said_reading : Result Reading Refusal → Answer ReadSaid
+said_reading (Ok r) = whole_sheet r.types r.nodes r.start r.sizes
+said_reading (Err why) = refused (said_why why)
 
-abbrev pub whole_sheet : ℕ → ℕ → ℕ → List ℕ → ReadSaid
-whole_sheet types n start sizes = record { answer = good (record { types = types; nodes = n; start = start }); sizes = sizes }
-
--- no sizes where the sheet is refused
-abbrev pub no_sheet : Refusal → ReadSaid
-no_sheet why = record { answer = refused why; sizes = sizes_of [] }
-
-unfoldable pub reading_of : Answer Sheet → ReadSaid
+unfoldable pub reading_of : Answer Sheet → Answer ReadSaid
 reading_of (good σ) = whole_sheet (length σ.table) (nodes σ.term) (length (table_bytes σ.table)) (sizes_of σ.table)
-reading_of (refused why) = no_sheet why
+reading_of (refused why) = refused why
 
 -- ---- a part of the sheet
 

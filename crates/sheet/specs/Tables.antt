@@ -1,14 +1,14 @@
 -- The types of a sheet by their numbers: the records of the first n types, each record's tests, and the table of sizes. Assumes nothing.
-use Rattle.std.specs.Prelude.{ℕ, zero, suc, ◌+◌, Bool, true, ◌&&◌, ◌≡◌, List, [], ◌∷◌, ◌++◌, ltb, length, get_or}
-use Rattle.calculus.specs.Answer.{Answer, good, refuse, ◌>>=◌, need}
+use Rattle.std.specs.Prelude.{ℕ, zero, suc, ◌+◌, Bool, true, ◌&&◌, ◌≡◌, Result, Ok, Err, List, [], ◌∷◌, ◌++◌, ltb, length, get_or}
+use Rattle.calculus.specs.Answer.{Answer, good, refused, ◌>>=◌, need}
 use Rattle.calculus.specs.Types.{size, TyRec, rec01, rec02, rec03, rec04, Table, ty_of, tys_from}
 use Rattle.calculus.specs.Read.{check_type}
 use Rattle.sheet_theorems.specs.Laid.{TableOk}
 use Rattle.sheet_theorems.specs.Records.{sharable_rec, arrow_rec}
 use Rattle.records.specs.Forms.{rec_in}
 use Rattle.records.specs.Told.{sizes_of}
-use Rattle.sheet.specs.declared.types.Checked.{Checked}
-use Rattle.sheet.specs.declared.types.Checked.TheVariants as checked
+use Rattle.answers.specs.declared.Refusal.{Refusal}
+use Rattle.answers.specs.Refusals.{said_why}
 
 -- the records of the first n types, as the sheet's bytes hold them
 unfoldable pub table_in : List ℕ → ℕ → Table
@@ -52,6 +52,6 @@ size_of Θ q at = do
   _ ← check_type Θ q at
   good (size (ty_of (tys_from [] Θ) q))
 
-abbrev pub said_checked : Checked → Answer ℕ
-said_checked (checked.Size n) = good n
-said_checked (checked.Refused number place) = refuse number place
+abbrev pub said_checked : Result ℕ Refusal → Answer ℕ
+said_checked (Ok n) = good n
+said_checked (Err why) = refused (said_why why)

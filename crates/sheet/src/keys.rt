@@ -48,10 +48,8 @@ pub fn among(keys: &[u16; 256], count: usize, key: u16) -> bool
     ensures { result ≡ among_first keys.now count key }
 {
     let mut found = false;
-    let mut t: usize = 0;
-    while t < count {
+    for t in 0..count {
         found = either(found, keys[t] == key);
-        t = t + 1;
     }
     found
 }

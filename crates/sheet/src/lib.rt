@@ -2,7 +2,6 @@
 #![tactic(auto)]
 
 ghost use Rattle.std.specs.Prelude.{◌≡◌, length};
-ghost use Rattle.calculus.specs.Answer.{numbered};
 ghost use Rattle.calculus.specs.Terms.{is_second, opening};
 ghost use Rattle.calculus.specs.Read.{read_term, read_records, edition_of, records_of, read_sheet};
 ghost use Rattle.calculus.specs.Stretch.{nowhere, stretch_of, cut};
@@ -10,11 +9,10 @@ ghost use Rattle.sheet_theorems.specs.Subterms.{skip};
 ghost use Rattle.records.specs.Editions.{edition_by};
 ghost use Rattle.sheet.specs.Nodes.{NodesFrom};
 ghost use Rattle.sheet.specs.Said.{spanned, ended_of};
-ghost use Rattle.sheet.specs.Sheets.{said_reading, no_sheet, reading_of, said_bounds};
+ghost use Rattle.sheet.specs.Sheets.{said_reading, reading_of, said_bounds};
 ghost use Rattle.sheet.specs.Place.{PartOf};
 
-use term::Span;
-use types::Listed;
+use answers::{Reason, Refusal};
 
 mod keys;
 mod term;
@@ -24,58 +22,43 @@ const LONGEST_SHEET: usize = 16384;
 
 const MOST_DEPTH: usize = 64;
 
-// How many types and nodes a sheet has, and where its term begins behind the opening; or a refusal's number and place.
-#[derive(Clone, Copy)]
-pub enum Verdict {
-    Read(usize, usize, usize),
-    Refused(u8, usize),
-}
-
-// .. and the size of each type; 0 past them, and where the sheet is refused.
-#[derive(Clone, Copy)]
+// How many types and nodes a sheet has, where its term begins behind the opening, and the size of each type; 0 past them.
+#[derive(Clone, Copy, Debug, PartialEq, Eq)]
 pub struct Reading {
-    pub verdict: Verdict,
+    pub types: usize,
+    pub nodes: usize,
+    pub start: usize,
     pub sizes: [u8; 256],
 }
 
-fn no_sheet(number: u8, place: usize) -> Reading
-    ensures { said_reading result ≡ no_sheet (numbered number place) }
-{
-    Reading {
-        verdict: Verdict::Refused(number, place),
-        sizes: types::no_sizes(),
-    }
-}
-
 // The term, then the sheet's end.
-fn read_term(s: &[u8], types: usize, start: usize, sizes: [u8; 256], second: bool) -> Reading
+fn read_term(
+    s: &[u8],
+    types: usize,
+    start: usize,
+    sizes: [u8; 256],
+    second: bool,
+) -> Result<Reading, Refusal>
     ensures { said_reading result ≡ ended_of (spanned (read_term (edition_by second) 64 s.now types start 0)) (length s.now) types start sizes }
 {
-    match term::span_at(s, start, 0, MOST_DEPTH, types, second) {
-        Span::Refused(number, place) => no_sheet(number, place),
-        Span::Next(end, nodes) => {
-            if end == s.len() {
-                return Reading {
-                    verdict: Verdict::Read(types, nodes, start),
-                    sizes,
-                };
-            }
-            no_sheet(9, end)
-        }
+    let end = term::span_at(s, start, 0, MOST_DEPTH, types, second)?;
+    if end.next != s.len() {
+        return Err(Reason::BytesBehind.at(end.next));
     }
+    Ok(Reading {
+        types,
+        nodes: end.nodes,
+        start,
+        sizes,
+    })
 }
 
 // The records behind the opening: refusals 3 to 9.
-fn read_records(s: &[u8], second: bool) -> Reading
+fn read_records(s: &[u8], second: bool) -> Result<Reading, Refusal>
     ensures { said_reading result ≡ reading_of (read_records (edition_by second) s.now) }
 {
-    let t = types::read_types(s);
-    let listed = t.listed;
-    let sizes = t.sizes;
-    match listed {
-        Listed::Refused(number, place) => no_sheet(number, place),
-        Listed::All(count, end) => read_term(s, count, end, sizes, second),
-    }
+    let t = types::read_types(s)?;
+    read_term(s, t.count, t.end, t.sizes, second)
 }
 
 // ---- the edition
@@ -109,24 +92,25 @@ pub fn records_of<'a>(s: &'a [u8]) -> &'a [u8]
 }
 
 // Refusals 2 to 9. Offsets count the opening.
-pub fn read(s: &[u8]) -> Reading
+pub fn read(s: &[u8]) -> Result<Reading, Refusal>
     ensures { said_reading result ≡ reading_of (read_sheet s.now) }
 {
     if LONGEST_SHEET < s.len() {
-        return no_sheet(2, 0);
+        return Err(Reason::LongSheet.at(0));
     }
-    let r = read_records(records_of(s), is_second(s));
-    let verdict = r.verdict;
-    match verdict {
-        Verdict::Read(_, _, _) => r,
-        Verdict::Refused(number, place) => no_sheet(number, opening(s) + place),
+    match read_records(records_of(s), is_second(s)) {
+        Ok(r) => Ok(r),
+        Err(why) => Err(Refusal {
+            place: opening(s) + why.place,
+            ..why
+        }),
     }
 }
 
 // ---- the stretch of a node
 
 // A part of the sheet: where it begins, and its length.
-#[derive(Clone, Copy)]
+#[derive(Clone, Copy, Debug, PartialEq, Eq)]
 pub struct Bounds {
     pub start: usize,
     pub size: usize,
@@ -144,11 +128,8 @@ fn skip(s: &[u8], start: usize, n: usize) -> usize
     ensures { result ≡ skip s.now n start }
 {
     let mut at = start;
-    let mut k: usize = 0;
-    while k < n {
-        let r = records::node_at(s, at);
-        at = r.next;
-        k = k + 1;
+    for _ in 0..n {
+        at = records::node_at(s, at).next;
     }
     at
 }
@@ -157,25 +138,19 @@ fn skip(s: &[u8], start: usize, n: usize) -> usize
 pub fn stretch_bounds(s: &[u8], node: usize) -> Bounds
     ensures { said_bounds result ≡ stretch_of s.now node }
 {
-    let v = read(s);
-    let verdict = v.verdict;
-    match verdict {
-        Verdict::Refused(_, _) => nowhere(),
-        Verdict::Read(types, nodes, start) => {
-            if nodes <= node {
-                return nowhere();
-            }
-            let second = is_second(s);
-            let at = skip(s, opening(s) + start, node);
-            match term::span_at(s, at, 0, MOST_DEPTH, types, second) {
-                Span::Refused(_, _) => nowhere(),
-                Span::Next(end, _) => {
-                    let size = end - at;
-                    Bounds { start: at, size }
-                }
-            }
-        }
+    let Ok(r) = read(s) else {
+        return nowhere();
+    };
+    if r.nodes <= node {
+        return nowhere();
     }
+    let second = is_second(s);
+    let at = skip(s, opening(s) + r.start, node);
+    let Ok(end) = term::span_at(s, at, 0, MOST_DEPTH, r.types, second) else {
+        return nowhere();
+    };
+    let size = end.next - at;
+    Bounds { start: at, size }
 }
 
 // The part of the caller's own sheet that holds a node and its subterms.

@@ -4,15 +4,16 @@ ghost use Rattle.calculus.specs.Read.{read_term};
 ghost use Rattle.records.specs.Editions.{edition_by, known_rule};
 ghost use Rattle.sheet.specs.Said.{mistyped, said_head, limits_of_lem, opens, said_span, spanned};
 
+use answers::{Reason, Refusal};
 use records::{Node, Record, Rule};
 
 const MOST_NODES: usize = 2048;
 
-// A node's record: where the next record is due and the number of subterms, or a refusal.
-#[derive(Clone, Copy)]
-pub enum Head {
-    Opens(usize, usize),
-    Refused(u8, usize),
+// A node's record: where the next record is due and the number of subterms.
+#[derive(Clone, Copy, Debug, PartialEq, Eq)]
+pub struct Head {
+    pub next: usize,
+    pub subterms: usize,
 }
 
 // A type number that a node's record holds names no type.
@@ -22,9 +23,9 @@ fn unknown_type(r: Node, types: usize) -> bool
     let rule = r.rule;
     match rule {
         Rule::Function | Rule::LinearFunction | Rule::Pair | Rule::FixedPoint => {
-            types <= records::wide(r.first)
+            types <= usize::from(r.first)
         }
-        Rule::Constant => types <= records::wide(r.second),
+        Rule::Constant => types <= usize::from(r.second),
         _ => false,
     }
 }
@@ -40,64 +41,84 @@ fn known(rule: Rule, second: bool) -> bool
 }
 
 // A whole node's record: kind, count, depth, type number. `more` is how many levels of depth there may still be.
-fn limits(r: Node, at: usize, count: usize, more: usize, types: usize, second: bool) -> Head
+fn limits(
+    r: Node,
+    at: usize,
+    count: usize,
+    more: usize,
+    types: usize,
+    second: bool,
+) -> Result<Head, Refusal>
     ensures { said_head result ≡ limits_of_lem (edition_by second) r at count more types }
 {
     let rule = r.rule;
     let here = known(rule, second);
     if !here {
-        return Head::Refused(4, at);
+        return Err(Reason::UnknownKind.at(at));
     }
     if MOST_NODES <= count {
-        return Head::Refused(8, at);
+        return Err(Reason::PastLimit.at(at));
     }
     if more == 0 {
-        return Head::Refused(8, at);
+        return Err(Reason::PastLimit.at(at));
     }
     if unknown_type(r, types) {
-        return Head::Refused(5, at);
+        return Err(Reason::UnknownType.at(at));
     }
-    Head::Opens(r.next, r.subterms)
+    Ok(Head {
+        next: r.next,
+        subterms: r.subterms,
+    })
 }
 
 // The refusal of a record that cannot be read is passed on, which inside the term is what a type's kind is too: no type comes back, and the
 // last case stands only because a match has every case.
-fn head_at(s: &[u8], at: usize, count: usize, more: usize, types: usize, second: bool) -> Head
+fn head_at(
+    s: &[u8],
+    at: usize,
+    count: usize,
+    more: usize,
+    types: usize,
+    second: bool,
+) -> Result<Head, Refusal>
     ensures { said_head result ≡ opens (edition_by second) more s.now types at count }
 {
-    match records::record_at(s, at, true) {
+    let record = records::record_at(s, at, true)?;
+    match record {
         Record::Node(r) => limits(r, at, count, more, types, second),
-        Record::Refused(number, place) => Head::Refused(number, place),
-        Record::Type(_, _) => Head::Refused(4, at),
+        Record::Type(_, _) => Err(Reason::UnknownKind.at(at)),
     }
 }
 
-// The end of a term: where the next record is due and how many nodes there have been, or a refusal.
-#[derive(Clone, Copy)]
-pub enum Span {
-    Next(usize, usize),
-    Refused(u8, usize),
+// The end of a term: where the next record is due and how many nodes there have been.
+#[derive(Clone, Copy, Debug, PartialEq, Eq)]
+pub struct Span {
+    pub next: usize,
+    pub nodes: usize,
 }
 
 // The term at an offset, with `count` nodes before it.
-pub fn span_at(s: &[u8], at: usize, count: usize, more: usize, types: usize, second: bool) -> Span
+pub fn span_at(
+    s: &[u8],
+    at: usize,
+    count: usize,
+    more: usize,
+    types: usize,
+    second: bool,
+) -> Result<Span, Refusal>
     ensures { said_span result ≡ spanned (read_term (edition_by second) more s.now types at count) }
 {
-    match head_at(s, at, count, more, types, second) {
-        Head::Refused(number, place) => Span::Refused(number, place),
-        Head::Opens(next, subterms) => {
-            let nodes = count + 1;
-            if subterms == 0 {
-                return Span::Next(next, nodes);
-            }
-            let a = span_at(s, next, nodes, more - 1, types, second);
-            if subterms == 1 {
-                return a;
-            }
-            match a {
-                Span::Next(b, c) => span_at(s, b, c, more - 1, types, second),
-                Span::Refused(number, place) => Span::Refused(number, place),
-            }
-        }
+    let head = head_at(s, at, count, more, types, second)?;
+    let nodes = count + 1;
+    if head.subterms == 0 {
+        return Ok(Span {
+            next: head.next,
+            nodes,
+        });
     }
+    let first = span_at(s, head.next, nodes, more - 1, types, second)?;
+    if head.subterms == 1 {
+        return Ok(first);
+    }
+    span_at(s, first.next, first.nodes, more - 1, types, second)
 }

@@ -1,6 +1,5 @@
 // The type records of a sheet: refusals 3 and 5 to 8, and the sizes of the types.
 ghost use Rattle.std.specs.Prelude.{◌≡◌, ◌&&◌, [], ◌+◌, ◌≤◌, ◌<◌, ltb, length, get_or};
-ghost use Rattle.calculus.specs.Answer.{numbered};
 ghost use Rattle.calculus.specs.Types.{rec_eq};
 ghost use Rattle.calculus.specs.Read.{repeated};
 ghost use Rattle.records.specs.Forms.{said_form, rec_of, rec_in};
@@ -8,9 +7,10 @@ ghost use Rattle.records.specs.Told.{sizes_of};
 ghost use Rattle.sheet.specs.Tables.{table_in, known_below, formed_in, size_in, Before, size_of, said_checked};
 ghost use Rattle.sheet.specs.Keys.{Keyed};
 ghost use Rattle.sheet_theorems.specs.Records.{sharable_rec, arrow_rec};
-ghost use Rattle.sheet.specs.Said.{said_types, no_types, types_of, types_in, types_end};
+ghost use Rattle.sheet.specs.Said.{said_types, types_of, types_in};
 
 use crate::keys;
+use answers::{Reason, Refusal};
 use records::{Form, Record};
 
 const MOST_TYPES: usize = 256;
@@ -21,33 +21,23 @@ const LARGEST_SIZE: usize = 128;
 fn sharable(s: &[u8], t: u8) -> bool
     ensures { result ≡ sharable_rec (rec_in s.now t) }
 {
-    match records::type_at(s, t) {
-        Form::Bit => true,
-        Form::Product(_, _) => true,
-        Form::Arrow(_, _) => false,
-        Form::Linear(_, _) => false,
-    }
+    matches!(records::type_at(s, t), Form::Bit | Form::Product(_, _))
 }
 
 // A number is an arrow's.
 fn arrow(s: &[u8], t: u8) -> bool
     ensures { result ≡ arrow_rec (rec_in s.now t) }
 {
-    match records::type_at(s, t) {
-        Form::Bit => false,
-        Form::Product(_, _) => false,
-        Form::Arrow(_, _) => true,
-        Form::Linear(_, _) => true,
-    }
+    matches!(
+        records::type_at(s, t),
+        Form::Arrow(_, _) | Form::Linear(_, _)
+    )
 }
 
 fn both_below(a: u8, b: u8, count: usize) -> bool
     ensures { result ≡ (ltb a count && ltb b count) }
 {
-    if records::wide(a) < count {
-        return records::wide(b) < count;
-    }
-    false
+    usize::from(a) < count && usize::from(b) < count
 }
 
 // Both type numbers name earlier types.
@@ -56,19 +46,14 @@ fn known(f: Form, count: usize) -> bool
 {
     match f {
         Form::Bit => true,
-        Form::Product(a, b) => both_below(a, b, count),
-        Form::Arrow(a, b) => both_below(a, b, count),
-        Form::Linear(a, b) => both_below(a, b, count),
+        Form::Product(a, b) | Form::Arrow(a, b) | Form::Linear(a, b) => both_below(a, b, count),
     }
 }
 
 fn both_sharable(s: &[u8], a: u8, b: u8) -> bool
     ensures { result ≡ (sharable_rec (rec_in s.now a) && sharable_rec (rec_in s.now b)) }
 {
-    if sharable(s, a) {
-        return sharable(s, b);
-    }
-    false
+    sharable(s, a) && sharable(s, b)
 }
 
 // The table's left and right rule.
@@ -106,12 +91,10 @@ fn stands(s: &[u8], count: usize, kind: u8, left: u8, right: u8) -> bool
     requires { (count ≤ 256) × (2 ≤ kind) × (kind ≤ 4) }
     ensures { result ≡ repeated (table_in s.now count) (rec_of kind left right) }
 {
-    let mut t: usize = 1;
-    while t < count {
+    for t in 1..count {
         if is_record(s, t, kind, left, right) {
             return true;
         }
-        t = t + 1;
     }
     false
 }
@@ -144,7 +127,7 @@ fn sum(sizes: &[u8], a: u8, b: u8) -> usize
     requires { length sizes.now ≡ 256 }
     ensures { result ≡ get_or sizes.now a 0 + get_or sizes.now b 0 }
 {
-    records::wide(sizes[records::wide(a)]) + records::wide(sizes[records::wide(b)])
+    usize::from(sizes[usize::from(a)]) + usize::from(sizes[usize::from(b)])
 }
 
 // The size of a record's type, from the sizes of earlier types.
@@ -154,19 +137,11 @@ fn size_of(sizes: &[u8], f: Form) -> usize
 {
     match f {
         Form::Bit => 1,
-        Form::Product(a, b) => sum(sizes, a, b),
-        Form::Arrow(a, b) => sum(sizes, a, b),
-        Form::Linear(a, b) => sum(sizes, a, b),
+        Form::Product(a, b) | Form::Arrow(a, b) | Form::Linear(a, b) => sum(sizes, a, b),
     }
 }
 
-// A type record against those before it: its size, or a refusal's number and place.
-#[derive(Clone, Copy)]
-pub enum Checked {
-    Size(u8),
-    Refused(u8, usize),
-}
-
+// A type record against those before it: its size, or refusal 5 to 8.
 fn check_type(
     s: &[u8],
     at: usize,
@@ -174,96 +149,62 @@ fn check_type(
     sizes: &[u8],
     keys: &[u16; 256],
     f: Form,
-) -> Checked
+) -> Result<u8, Refusal>
     requires { (Before s.now count sizes.now) × Keyed s.now count keys.now }
     ensures { said_checked result ≡ size_of (table_in s.now count) (said_form f) at }
 {
     if MOST_TYPES <= count {
-        return Checked::Refused(8, at);
+        return Err(Reason::PastLimit.at(at));
     }
     let numbers = known(f, count);
     let form = formed(s, f);
     if !numbers {
-        return Checked::Refused(5, at);
+        return Err(Reason::UnknownType.at(at));
     }
     if !form {
-        return Checked::Refused(6, at);
+        return Err(Reason::WrongSort.at(at));
     }
     if repeats_by(s, keys, count, f) {
-        return Checked::Refused(7, at);
+        return Err(Reason::RepeatedType.at(at));
     }
     let size = size_of(sizes, f);
     if LARGEST_SIZE < size {
-        return Checked::Refused(8, at);
+        return Err(Reason::PastLimit.at(at));
     }
-    let bits = size as u8;
-    Checked::Size(bits)
+    Ok(size as u8)
 }
 
-// The type records: their number and the offset past them, or a refusal's number and place.
-#[derive(Clone, Copy)]
-pub enum Listed {
-    All(usize, usize),
-    Refused(u8, usize),
-}
-
-// .. and the size of each type; 0 past them, and where they are refused.
-#[derive(Clone, Copy)]
+// The type records: their number, the offset past them, and the size of each type; 0 past them.
+#[derive(Clone, Copy, Debug, PartialEq, Eq)]
 pub struct Types {
-    pub listed: Listed,
+    pub count: usize,
+    pub end: usize,
     pub sizes: [u8; 256],
 }
 
-pub fn no_sizes() -> [u8; 256]
+fn no_sizes() -> [u8; 256]
     ensures { result ≡ sizes_of [] }
 {
     [0u8; 256]
 }
 
-fn no_types(number: u8, place: usize) -> Types
-    ensures { said_types result ≡ no_types (numbered number place) }
-{
-    Types {
-        listed: Listed::Refused(number, place),
-        sizes: no_sizes(),
-    }
-}
-
-// Where no type's record stands: a node's ends the types, and a refusal is the sheet's, since a record is due there in any case.
-fn types_end(r: Record, at: usize, count: usize, sizes: [u8; 256]) -> Types
-    ensures { said_types result ≡ types_end r at count sizes }
-{
-    let Record::Refused(number, place) = r else {
-        return Types {
-            listed: Listed::All(count, at),
-            sizes,
-        };
-    };
-    no_types(number, place)
-}
-
-pub fn read_types(s: &[u8]) -> Types
+// A node's record ends the types. Where no record can be read its refusal is the sheet's, since one is due there in any case.
+pub fn read_types(s: &[u8]) -> Result<Types, Refusal>
     ensures { said_types result ≡ types_of (types_in s.now) }
 {
     let mut sizes = no_sizes();
     let mut keys = keys::no_keys();
     let mut at: usize = 0;
     let mut count: usize = 0;
-    loop {
-        let r = records::record_at(s, at, false);
-        let Record::Type(f, next) = r else {
-            return types_end(r, at, count, sizes);
-        };
-        match check_type(s, at, count, &sizes, &keys, f) {
-            Checked::Refused(number, place) => {
-                return no_types(number, place);
-            }
-            Checked::Size(size) => {
-                sizes[count] = size;
-                keys[count] = keys::key_of(f);
-                count = count + 1;
-                at = next;
-            }
-        }
+    while let Record::Type(f, next) = records::record_at(s, at, false)? {
+        sizes[count] = check_type(s, at, count, &sizes, &keys, f)?;
+        keys[count] = keys::key_of(f);
+        count = count + 1;
+        at = next;
     }
+    Ok(Types {
+        count,
+        end: at,
+        sizes,
+    })
 }

@@ -8,6 +8,9 @@ use lib.Dec.{eqb}
 use lib.ListN.{length, get_or, length-append}
 use lib.Seq.{sets}
 use borrow.Author.Tests.{le-leb, lt-leb, eq-eqb}
+use Rattle.std.proofs.Common.{Ok, Err}
+use Rattle.answers.specs.declared.Reason.{Reason}
+use Rattle.answers.specs.Refusals.{refusal_at}
 use Rattle.laws.proofs.Regions.{written-more, sets-front}
 use Rattle.calculus.specs.Answer.{good, refuse}
 use Rattle.calculus.specs.Types.{Table}
@@ -20,7 +23,6 @@ use Rattle.made_nodes.specs.Forms.{EditionIn}
 use Rattle.sheet_writer.specs.Bytes.{opening_in, types_bytes, TypesFit}
 use Rattle.sheet_writer.specs.Wrote.{Measures, TermFits, TermWrote, SheetStands, sheet_answer, SheetWrote}
 use Rattle.sheet_writer.specs.declared.Span.{Span}
-use Rattle.sheet_writer.specs.declared.WroteSheet.TheVariants as wrote
 use Rattle.sheet_writer.proofs.TypeRecords.{types_are, types-low}
 
 -- ---- the answers
@@ -58,7 +60,7 @@ module _ (w : List ℕ) (root n : ℕ) (out places : List ℕ) (c : n ≡ get_or
       let s = M.says e ps t in
       (omega (arith, s.0, ap length (bytes_are w E Θ e n d H c), length-append (opening_in w) (types_bytes w n ++ term_bytes e), length-append (types_bytes w n) (term_bytes e)), s.1)
 
-  pub sheet-short : length out < bytes → SheetWrote w root out places (wrote.Refused 17 bytes) out places
+  pub sheet-short : length out < bytes → SheetWrote w root out places (Err (refusal_at Reason.ShortOutput bytes)) out places
   sheet-short h = record {
     says = λ E Θ e ps d H t.
         let l = (long E Θ e ps d H t).0 in
@@ -66,7 +68,7 @@ module _ (w : List ℕ) (root n : ℕ) (out places : List ℕ) (c : n ≡ get_or
         rw (a, l) (record { said = refl; left = refl; left_places = refl });
   }
 
-  pub sheet-few : bytes ≤ length out → length places < m.nodes → SheetWrote w root out places (wrote.Refused 37 m.nodes) out places
+  pub sheet-few : bytes ≤ length out → length places < m.nodes → SheetWrote w root out places (Err (refusal_at Reason.ShortPlaces m.nodes)) out places
   sheet-few h g = record {
     says = λ E Θ e ps d H t.
         let l = long E Θ e ps d H t in
@@ -102,7 +104,7 @@ module _ (w : List ℕ) (root n : ℕ) (out places : List ℕ) (c : n ≡ get_or
 
     pub sheet-written :
         (out₁ out₂ out₃ places₃ : List ℕ) (from at : ℕ) (r : Span) → from ≡ length (opening_in w) → out₁ ≡ sets out 0 (opening_in w) → at ≡ from + length (types_bytes w n) → out₂ ≡ sets out₁ from (types_bytes w n)
-        → TermWrote w root at 0 out₂ places r out₃ places₃ → SheetWrote w root out places (wrote.Bytes bytes) out₃ places₃
+        → TermWrote w root at 0 out₂ places r out₃ places₃ → SheetWrote w root out places (Ok bytes) out₃ places₃
     sheet-written out₁ out₂ out₃ places₃ from at r f o₁ a o₂ W = record {
       says = λ E Θ e ps d H t.
           let l = long E Θ e ps d H t in

@@ -1,7 +1,9 @@
 -- What measuring and writing the sheet in the working memory answer and leave. Assumes nothing.
-use Rattle.std.specs.Prelude.{ℕ, ◌+◌, ◌≤◌, ◌<◌, ◌≡◌, List, leb, length}
+use Rattle.std.specs.Prelude.{ℕ, ◌+◌, ◌≤◌, ◌<◌, ◌≡◌, List, Result, Ok, Err, leb, length}
 use Rattle.std.proofs.lemmas.List.Edits.{sets}
-use Rattle.calculus.specs.Answer.{Answer, good, ◌>>=◌, refuse, need}
+use Rattle.answers.specs.declared.Refusal.{Refusal}
+use Rattle.answers.specs.Refusals.{said_why}
+use Rattle.calculus.specs.Answer.{Answer, good, refused, ◌>>=◌, need}
 use Rattle.calculus.specs.Types.{Table}
 use Rattle.calculus.specs.Terms.{Edition, Term}
 use Rattle.calculus.specs.Write.{term_bytes, sheet_bytes}
@@ -12,8 +14,6 @@ use Rattle.made_types.specs.Held.{HoldsTypes}
 use Rattle.made_nodes.specs.Nodes.{TermIn}
 use Rattle.made_nodes.specs.Forms.{EditionIn}
 use Rattle.sheet_writer.specs.declared.Span.{Span}
-use Rattle.sheet_writer.specs.declared.WroteSheet as code
-use Rattle.sheet_writer.specs.declared.WroteSheet.TheVariants as wrote
 
 -- some term of at most 2,048 nodes has its root at node k
 pub record TermStands (w : List ℕ) (k : ℕ) : Type 0 where
@@ -61,16 +61,16 @@ sheet_answer E Θ e ps room roomPlaces = do
   _ ← need (leb (length ps) roomPlaces) 37 (length ps)
   good (record { bytes = sheet_bytes E Θ e; places = ps })
 
-abbrev pub said_wrote : code.WroteSheet → Answer ℕ
-said_wrote (wrote.Bytes n) = good n
-said_wrote (wrote.Refused number place) = refuse number place
+abbrev pub said_wrote : Result ℕ Refusal → Answer ℕ
+said_wrote (Ok n) = good n
+said_wrote (Err e) = refused (said_why e)
 
 -- an answer, and what it leaves of the output and the places
-pub record LeavesAs (a : Answer Written) (out places : List ℕ) (r : code.WroteSheet) (out' places' : List ℕ) : Type 0 where
+pub record LeavesAs (a : Answer Written) (out places : List ℕ) (r : Result ℕ Refusal) (out' places' : List ℕ) : Type 0 where
   pub said : said_wrote r ≡ said_make a
   pub left : out' ≡ out_make a out
   pub left_places : places' ≡ places_make a places
 
 -- whatever sheet the memory holds, it is answered and written as the definition says
-pub record SheetWrote (w : List ℕ) (root : ℕ) (out places : List ℕ) (r : code.WroteSheet) (out' places' : List ℕ) : Type 0 where
+pub record SheetWrote (w : List ℕ) (root : ℕ) (out places : List ℕ) (r : Result ℕ Refusal) (out' places' : List ℕ) : Type 0 where
   pub says : (E : Edition) (Θ : Table) (e : Term) (ps : List ℕ) → EditionIn w E → HoldsTypes w Θ → TermIn w root e ps → LeavesAs (sheet_answer E Θ e ps (length out) (length places)) out places r out' places'

@@ -8,19 +8,14 @@ ghost use Rattle.made_types.specs.Held.{kind_in};
 ghost use Rattle.sheet_writer.specs.Bytes.{opening_in, type_bytes, types_bytes, TypeLow, TypesFit, node_kind_in, node_place_in, body_bytes, subterm_count, node_record, RecordLow};
 ghost use Rattle.sheet_writer.specs.Wrote.{TermStands, Measures, TermFits, TermWrote, SheetStands, SheetWrote};
 
+use answers::{Reason, Refusal};
 use making_memory::{NODES, SECOND, TYPE_COUNT, TYPES};
 
 // Bytes and nodes: how many, or where the next come.
-#[derive(Clone, Copy)]
+#[derive(Clone, Copy, Debug, PartialEq, Eq)]
 pub struct Span {
     pub bytes: usize,
     pub nodes: usize,
-}
-
-#[derive(Clone, Copy)]
-pub enum WroteSheet {
-    Bytes(usize),
-    Refused(u8, usize),
 }
 
 // ---- types
@@ -30,15 +25,13 @@ fn types_length(work: &[u16], n: usize) -> usize
     requires { (making_size ≤ length work.now) × (n ≤ 256) }
     ensures { result ≡ length (types_bytes work.now n) }
 {
-    let mut t: usize = 0;
     let mut total: usize = 0;
-    while t < n {
+    for t in 0..n {
         if work[TYPES + 4 * t] == 1 {
             total = total + 1;
         } else {
             total = total + 3;
         }
-        t = t + 1;
     }
     total
 }
@@ -63,11 +56,9 @@ fn write_types(work: &[u16], out: &mut [u8], n: usize, from: usize) -> usize
     requires { TypesFit work.now n from (length out.old) }
     ensures { (result ≡ from + length (types_bytes work.now n)) × (out.new ≡ sets out.old from (types_bytes work.now n)) }
 {
-    let mut t: usize = 0;
     let mut at = from;
-    while t < n {
+    for t in 0..n {
         at = write_type(work, out, t, at);
-        t = t + 1;
     }
     at
 }
@@ -77,46 +68,21 @@ fn write_types(work: &[u16], out: &mut [u8], n: usize, from: usize) -> usize
 fn body_bytes(kind: u16) -> usize
     ensures { result ≡ body_bytes kind }
 {
-    if kind == 0x1A {
-        return 2;
+    match kind {
+        0x1A => 2,
+        0x14 | 0x16 | 0x18 | 0x1B => 0,
+        _ => 1,
     }
-    if kind == 0x14 {
-        return 0;
-    }
-    if kind == 0x16 {
-        return 0;
-    }
-    if kind == 0x18 {
-        return 0;
-    }
-    if kind == 0x1B {
-        return 0;
-    }
-    1
 }
 
 fn subterms(kind: u16) -> usize
     ensures { result ≡ subterm_count kind }
 {
-    if kind == 0x11 {
-        return 0;
+    match kind {
+        0x11 | 0x12 | 0x1A => 0,
+        0x13 | 0x15 | 0x19 => 1,
+        _ => 2,
     }
-    if kind == 0x12 {
-        return 0;
-    }
-    if kind == 0x1A {
-        return 0;
-    }
-    if kind == 0x13 {
-        return 1;
-    }
-    if kind == 0x15 {
-        return 1;
-    }
-    if kind == 0x19 {
-        return 1;
-    }
-    2
 }
 
 // One of a node's numbers.
@@ -245,8 +211,13 @@ fn opening_length(work: &[u16]) -> usize
     0
 }
 
-// The sheet that stands in the working memory, and the places of its nodes: 17 with the bytes needed, then 37 with the nodes.
-pub fn write(work: &[u16], out: &mut [u8], places: &mut [u16], root: usize) -> WroteSheet
+// The sheet that stands in the working memory, and the places of its nodes; how many bytes it has. Or 17 with the bytes needed, then 37 with the nodes.
+pub fn write(
+    work: &[u16],
+    out: &mut [u8],
+    places: &mut [u16],
+    root: usize,
+) -> Result<usize, Refusal>
     requires { SheetStands work.now root }
     ensures { SheetWrote work.now root out.old places.old result out.new places.new }
 {
@@ -255,14 +226,14 @@ pub fn write(work: &[u16], out: &mut [u8], places: &mut [u16], root: usize) -> W
     let m = measure(work, root);
     let bytes = head + m.bytes;
     if out.len() < bytes {
-        return WroteSheet::Refused(17, bytes);
+        return Err(Reason::ShortOutput.at(bytes));
     }
     let nodes = m.nodes;
     if places.len() < nodes {
-        return WroteSheet::Refused(37, nodes);
+        return Err(Reason::ShortPlaces.at(nodes));
     }
     let from = write_opening(work, out);
     let at = write_types(work, out, types, from);
     write_term(work, out, places, root, at, 0);
-    WroteSheet::Bytes(bytes)
+    Ok(bytes)
 }

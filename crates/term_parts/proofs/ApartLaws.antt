@@ -6,6 +6,8 @@ use mathlib.Core.List.{List, []}
 use native.Mathlib.Omega.{arith}
 use lib.Dec.{eqb, ltb}
 use lib.ListN.{length}
+use Rattle.std.specs.Prelude.{Result, Ok, Err}
+use Rattle.answers.specs.declared.Refusal.{Refusal}
 use Rattle.calculus.specs.Answer.{Answer, good}
 use Rattle.calculus.specs.Types.{TyRec, rec01, rec02, rec03, rec04, rec_at}
 use Rattle.calculus.specs.Terms.{Term, var}
@@ -23,14 +25,11 @@ use Rattle.made_nodes.specs.Nodes.{of_var}
 use Rattle.made_nodes.specs.Held.{TermHeld, MadeIn}
 use Rattle.made_nodes.specs.Adding.{no_sub, NodeSays}
 use Rattle.made_nodes.specs.declared.Sub.{Sub}
-use Rattle.made_nodes.specs.declared.MadeTerm as code
-use Rattle.made_nodes.specs.declared.MadeTerm.TheVariants as made
 use Rattle.made_nodes.proofs.Answers.{on-term, on-no-term}
 use Rattle.scopes.specs.Frames.{HoldsScope}
 use Rattle.walks.proofs.Kept.{scope_on_terms, term_on_terms, terms_of_made}
 use Rattle.term_parts.specs.declared.halves.Half.{Half}
 use Rattle.term_parts.specs.declared.names.TwoNames.{TwoNames}
-use Rattle.term_parts.specs.declared.apart.RestEnd.TheVariants as rest_end
 use Rattle.term_parts.specs.Names.{bound_in, TwoSay}
 use Rattle.term_parts.specs.Halves.{with_half, InHalves, PartsOnly}
 use Rattle.term_parts.specs.Parts.{NameBound, parted_by, first_name, second_name, HalfWaits, CanTake, TakeSays, RestSays, CanTakeAt, TakeLastSays, RestAnswers, TakeRestSays}
@@ -103,7 +102,7 @@ module _ (w : List ℕ) (entry half place other : ℕ) (v : Sub) (C : CanTake w 
 
 -- ---- the rest of a pair
 
-pub rest_says : (w : List ℕ) (place : ℕ) (v : Sub) (right : ℕ) → right ≡ cond (eqb (kind_in w v.ty) 2) (right_in w v.ty) 0 → (r : code.MadeTerm) (w' : List ℕ) → NodeSays w (record { kind = 0x11; body = 0; left = 0; right = 0; place = place }) right 0 r w' → RestSays w place v r w'
+pub rest_says : (w : List ℕ) (place : ℕ) (v : Sub) (right : ℕ) → right ≡ cond (eqb (kind_in w v.ty) 2) (right_in w v.ty) 0 → (r : Result Sub Refusal) (w' : List ℕ) → NodeSays w (record { kind = 0x11; body = 0; left = 0; right = 0; place = place }) right 0 r w' → RestSays w place v r w'
 rest_says w place v right e r w' N = record {
   only = N.only;
   says = λ σ m H T.
@@ -140,7 +139,7 @@ module _ (text w : List ℕ) (at entry half : ℕ) (v : Sub) (C : CanTakeAt text
     scope = λ frame S m l H σ T. K.scope text frame S m (first_name (from text at)) (second_name (from text at)) l H σ T (omega (arith, two.inside)) (omega (arith, two.inside_too)) name-so (ap (λ (x : Bound). x.name) second_is);
   }
 
-  module _ (w₁ : List ℕ) (K : TakeSays w entry half t.first (length text) v w₁) (r : code.MadeTerm) (w₂ : List ℕ) (R : RestSays w₁ t.second v r w₂) where
+  module _ (w₁ : List ℕ) (K : TakeSays w entry half t.first (length text) v w₁) (r : Result Sub Refusal) (w₂ : List ℕ) (R : RestSays w₁ t.second v r w₂) where
     rest-only : PartsOnly entry half w w₂
     rest-only = parts_then entry entry entry half half half w w₁ w₂ (omega arith) (omega arith) (omega arith) (omega arith) K.only (parts_of-made entry half w₁ w₂ (omega (arith, C.few)) (omega (arith, C.halves)) R.only)
 
@@ -157,14 +156,14 @@ module _ (text w : List ℕ) (at entry half : ℕ) (v : Sub) (C : CanTakeAt text
       rest-scope : HoldsScope text w₂ frame (entry + 2) (with_variables S (parted_by m (first_name (from text at)) rest S.variables))
       rest-scope = scope_on_terms 0 (entry + 2) text w₁ w₂ (terms_of_made 0 (entry + 2) w₁ w₂ C.few R.only) frame (entry + 2) _ (omega arith) l (omega arith) (K.scope text frame S m (first_name (from text at)) rest l H σ T (omega (arith, two.inside)) (omega arith) name-so (rest_unnamed text))
 
-      rest_good : (s : Sub) → r ≡ made.At s → (next : ℕ) → RestAnswers text w₂ frame (entry + 2) S (first_name (from text at)) m (rest_end.At next s) restNode
-      rest_good s i next = on-term w₂ s (λ (a : Answer Made). restNode ≡ a → RestAnswers text w₂ frame (entry + 2) S (first_name (from text at)) m (rest_end.At next s) a) restNode (subst (λ (q : code.MadeTerm). MadeIn w₂ q restNode) i rest-made) (λ q K' U e. record { scope = rest-scope; counts = node_counts _ (var 0) _ 0 [] m.state q e; state = K'; held = U }) refl
+      rest_good : (s : Sub) → r ≡ Ok s → (next : ℕ) → RestAnswers text w₂ frame (entry + 2) S (first_name (from text at)) m (Ok (record { next = next; sub = s })) restNode
+      rest_good s i next = on-term w₂ s (λ (a : Answer Made). restNode ≡ a → RestAnswers text w₂ frame (entry + 2) S (first_name (from text at)) m (Ok (record { next = next; sub = s })) a) restNode (subst (λ (q : Result Sub Refusal). MadeIn w₂ q restNode) i rest-made) (λ q K' U e. record { scope = rest-scope; counts = node_counts _ (var 0) _ 0 [] m.state q e; state = K'; held = U }) refl
 
-      rest-bad : (n p : ℕ) → r ≡ made.Refused n p → RestAnswers text w₂ frame (entry + 2) S (first_name (from text at)) m (rest_end.Refused n p) restNode
-      rest-bad n p i = on-no-term w₂ n p (λ (a : Answer Made). RestAnswers text w₂ frame (entry + 2) S (first_name (from text at)) m (rest_end.Refused n p) a) restNode (subst (λ (q : code.MadeTerm). MadeIn w₂ q restNode) i rest-made) refl
+      rest-bad : (e : Refusal) → r ≡ Err e → RestAnswers text w₂ frame (entry + 2) S (first_name (from text at)) m (Err e) restNode
+      rest-bad e i = on-no-term w₂ e (λ (a : Answer Made). RestAnswers text w₂ frame (entry + 2) S (first_name (from text at)) m (Err e) a) restNode (subst (λ (q : Result Sub Refusal). MadeIn w₂ q restNode) i rest-made) refl
 
-    pub took-rest : (s : Sub) → r ≡ made.At s → TakeRestSays text w at entry half v (rest_end.At t.next s) w₂
+    pub took-rest : (s : Sub) → r ≡ Ok s → TakeRestSays text w at entry half v (Ok (record { next = t.next; sub = s })) w₂
     took-rest s i = record { only = rest-only; waits = rest-waits; next = (two.rest, two.lexed); says = λ frame S m l H σ T. rest_good frame S m l H σ T s i t.next }
 
-    pub took-none : (n p p' : ℕ) → r ≡ made.Refused n p → p' ≡ p → TakeRestSays text w at entry half v (rest_end.Refused n p') w₂
-    took-none n p p' i e = subst (λ (q : ℕ). TakeRestSays text w at entry half v (rest_end.Refused n q) w₂) (sym e) (record { only = rest-only; waits = rest-waits; next = tt; says = λ frame S m l H σ T. rest-bad frame S m l H σ T n p i })
+    pub took-none : (e : Refusal) → r ≡ Err e → TakeRestSays text w at entry half v (Err e) w₂
+    took-none e i = record { only = rest-only; waits = rest-waits; next = tt; says = λ frame S m l H σ T. rest-bad frame S m l H σ T e i }

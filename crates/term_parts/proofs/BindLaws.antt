@@ -4,6 +4,8 @@ use mathlib.Core.Path.{◌≡◌, refl, sym, ap, ◌∙◌, subst}
 use mathlib.Core.List.{List, ◌∷◌}
 use native.Mathlib.Omega.{arith}
 use lib.ListN.{length, get_or}
+use Rattle.std.specs.Prelude.{IsOk, Result}
+use Rattle.answers.specs.declared.Refusal.{Refusal}
 use Rattle.calculus.specs.Answer.{Answer}
 use Rattle.notation_calculus.specs.Trees.{Bound}
 use Rattle.notation_calculus.specs.Grammar.{Got, name_at}
@@ -18,9 +20,9 @@ use Rattle.scopes.specs.Frames.{HoldsScope}
 use Rattle.scopes.proofs.KeepLaws.{entry_only, entry_place, only_none, only_then, scope_bound}
 use Rattle.walks.specs.Says.{bound_at}
 use Rattle.term_parts.specs.declared.names.NameEnd.{NameEnd}
-use Rattle.term_parts.specs.Names.{names_by, AllNames, spaced, spaced_names, NamesStand, NameSays}
+use Rattle.term_parts.specs.Names.{names_by, AllNames, spaced, spaced_names, NamesStand, ReadsName, NameSays}
 use Rattle.term_parts.specs.Parts.{NameBound, CanBind, NamesBound}
-use Rattle.term_parts.proofs.NameLaws.{one_of_name, one_good}
+use Rattle.term_parts.proofs.NameLaws.{name_read}
 
 pub name_bound : (w : List ℕ) (top place ty : ℕ) → top < most_entries → making_size ≤ length w → (w' : List ℕ) → w' ≡ with_entry w top place ty → NameBound w top place ty w'
 name_bound w top place ty few room w' is = subst (NameBound w top place ty) (sym is) (record {
@@ -79,7 +81,13 @@ module _ (text w₀ : List ℕ) (at count top ty : ℕ) (C : CanBind text w₀ a
             subst (λ (Γ : List Entry). HoldsScope text w frame (top + count) (with_variables S Γ)) (sym all) (subst (λ (j : ℕ). HoldsScope text w frame (top + j) (with_variables S g.variables)) z g.scope);
       }
 
-  module _ (more : i < count) (x : NameEnd) (X : NameSays text p x) where
+  -- the next name is read
+  pub binding-read : i < count → (r : Result NameEnd Refusal) → NameSays text p r → IsOk r
+  binding-read more r N =
+      let z : count - i ≡ suc (count - (i + 1)) = omega arith in
+      name_read text p r N _ _ (subst (λ (k : ℕ). AllNames name_at spaced k (from text p)) z B.stand.all).0
+
+  module _ (more : i < count) (x : NameEnd) (X : ReadsName text p x) where
     abbrev later : ℕ
     later = count - (i + 1)
 
@@ -89,14 +97,11 @@ module _ (text w₀ : List ℕ) (at count top ty : ℕ) (C : CanBind text w₀ a
     all-later : AllNames name_at spaced (suc later) (from text p)
     all-later = subst (λ (k : ℕ). AllNames name_at spaced k (from text p)) later-is B.stand.all
 
-    good-name : x.number ≡ 0
-    good-name = one_good name_at text p x (one_of_name text p x X) _ _ all-later.0
-
     pub binding-small : x.place < 65536
-    binding-small = omega (arith, X.inside good-name, C.can.short)
+    binding-small = omega (arith, X.inside, C.can.short)
 
     names-are : spaced_names text p (count - i) ≡ bound_at text x.place ∷ spaced_names text x.end later
-    names-are = ap (spaced_names text p) later-is ∙ ap (λ (m : Answer (Got Bound)). value_in no_bound m ∷ names_by name_at spaced later (rest_in_lem m)) (X.reads good-name)
+    names-are = ap (spaced_names text p) later-is ∙ ap (λ (m : Answer (Got Bound)). value_in no_bound m ∷ names_by name_at spaced later (rest_in_lem m)) X.reads
 
     module _ (w' : List ℕ) (N : NameBound w (top + i) x.place ty w') where
       one_more : top + i + 1 ≡ top + (i + 1)
@@ -105,14 +110,14 @@ module _ (text w₀ : List ℕ) (at count top ty : ℕ) (C : CanBind text w₀ a
       pub binding-more : Binding text w₀ at count top ty w' (i + 1) x.end
       binding-more = record {
         within = omega arith;
-        stand = record { lexed = (X.onward good-name).lexed; all = subst (λ (m : Answer (Got Bound)). AllNames name_at spaced later (rest_in_lem m)) (X.reads good-name) all-later.1 };
+        stand = record { lexed = X.onward.lexed; all = subst (λ (m : Answer (Got Bound)). AllNames name_at spaced later (rest_in_lem m)) X.reads all-later.1 };
         only = only_then top (top + i) (top + i) (top + i + 1) top (top + (i + 1)) w₀ w w' (omega arith) (omega arith) (omega arith) (omega arith) B.only N.only;
         names = λ v same K. B.names v (λ j l. same j (omega arith) ∙ N.only.below j l) (subst (NamesIn v (top + i)) (sym names-are) (names_cons v (top + i) (bound_at text x.place) (spaced_names text x.end later) (same (scope_at + 2 * (top + i)) (omega arith) ∙ N.placed) (subst (λ (j : ℕ). NamesIn v j (spaced_names text x.end later)) (sym one_more) K)));
         says = λ frame S H.
             let g = B.says frame S H in
             record {
               variables = bind (bound_at text x.place) ty g.variables;
-              scope = subst (λ (j : ℕ). HoldsScope text w' frame j (with_variables S (bind (bound_at text x.place) ty g.variables))) one_more (N.says text frame (with_variables S g.variables) (bound_at text x.place) g.scope (omega (arith, X.inside good-name)) (sym (X.plain good-name)));
+              scope = subst (λ (j : ℕ). HoldsScope text w' frame j (with_variables S (bind (bound_at text x.place) ty g.variables))) one_more (N.says text frame (with_variables S g.variables) (bound_at text x.place) g.scope (omega (arith, X.inside)) (sym X.plain));
               going = g.going ∙ ap (λ (xs : List Bound). bind_all xs ty g.variables) names-are;
             };
       }

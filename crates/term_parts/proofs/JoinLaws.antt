@@ -4,6 +4,8 @@ use mathlib.Core.Path.{◌≡◌, refl, sym, ap, ◌∙◌, subst}
 use mathlib.Core.List.{List, [], ◌∷◌}
 use native.Mathlib.Omega.{arith}
 use lib.ListN.{length}
+use Rattle.std.specs.Prelude.{Result, Ok, Err}
+use Rattle.answers.specs.declared.Refusal.{Refusal}
 use Rattle.calculus.specs.Answer.{Answer, good, ◌>>=◌}
 use Rattle.calculus.specs.Terms.{proj}
 use Rattle.notation_calculus.specs.Making.{Made, over, pair_of}
@@ -12,8 +14,6 @@ use Rattle.made_types.specs.Held.{HoldsState}
 use Rattle.made_nodes.specs.Held.{TermHeld, MadeIn, SmallMade, MadeOnly, Workable}
 use Rattle.made_nodes.specs.Forms.{PairSays, ProjectionSays}
 use Rattle.made_nodes.specs.declared.Sub.{Sub}
-use Rattle.made_nodes.specs.declared.MadeTerm as code
-use Rattle.made_nodes.specs.declared.MadeTerm.TheVariants as made
 use Rattle.made_nodes.proofs.Terms.{made-same, made_on, held_on, workable_on}
 use Rattle.made_nodes.proofs.Answers.{on-term, on-no-term}
 use Rattle.term_parts.specs.declared.halves.Half.{Half}
@@ -24,7 +24,7 @@ use Rattle.term_parts.proofs.Stay.{half_same, halves-stay}
 module _ {A : Type 0} (made_of : A → Made) (place_of : A → ℕ) (join : List A → Made → Answer Made) (one : A → Made → Answer Made)
     (join-none : (m : Made) → join [] m ≡ good m) (join_one : (x : A) (xs : List A) (m : Made) → join (x ∷ xs) m ≡ (one x m >>= λ p. join xs p)) where
   -- one of them was joined to a term
-  pub record OneSays (w : List ℕ) (place : ℕ) (a f : Sub) (r : code.MadeTerm) (w' : List ℕ) : Type 0 where
+  pub record OneSays (w : List ℕ) (place : ℕ) (a f : Sub) (r : Result Sub Refusal) (w' : List ℕ) : Type 0 where
     pub only : MadeOnly w w'
     pub small : SmallMade r
     pub says : (x : A) (m : Made) → place_of x ≡ place → HoldsState w m.state → TermHeld w a (made_of x) → TermHeld w f m → MadeIn w' r (one x m)
@@ -57,15 +57,15 @@ module _ {A : Type 0} (made_of : A → Made) (place_of : A → ℕ) (join : List
     pub joining-workable : Workable w
     joining-workable = workable_on w₀ w C.workable J.only
 
-    pub joining-done : ¬ (0 < left) → JoinSays made_of place_of join w₀ from count e (made.At f) w
+    pub joining-done : ¬ (0 < left) → JoinSays made_of place_of join w₀ from count e (Ok f) w
     joining-done z = record {
       only = J.only;
       small = J.small;
       says = λ xs m l H S T. let g = J.says xs m l H S T in ended xs m g g.others (omega (arith, g.counted)) refl;
     }
       where
-        ended : (xs : List A) (m : Made) (g : JoinLeft w₀ from w f left (join xs m)) (os : List A) → length os ≡ 0 → g.others ≡ os → MadeIn w (made.At f) (join xs m)
-        ended xs m g [] z e = subst (MadeIn w (made.At f)) (sym (g.going ∙ ap (λ (q : List A). join q g.made) e ∙ join-none g.made)) (g.state, g.held)
+        ended : (xs : List A) (m : Made) (g : JoinLeft w₀ from w f left (join xs m)) (os : List A) → length os ≡ 0 → g.others ≡ os → MadeIn w (Ok f) (join xs m)
+        ended xs m g [] z e = subst (MadeIn w (Ok f)) (sym (g.going ∙ ap (λ (q : List A). join q g.made) e ∙ join-none g.made)) (g.state, g.held)
         ended xs m g (x ∷ q) z e = absurd (omega arith)
 
     module _ (next : ℕ) (is : next + 1 ≡ left) (h : Half) (at : h ≡ half_in w (from + next)) where
@@ -76,7 +76,7 @@ module _ {A : Type 0} (made_of : A → Made) (place_of : A → ℕ) (join : List
       pub joining-type : h.ty < 256
       joining-type = subst (λ (q : Half). q.ty < 256) (sym (at ∙ half-stays)) (C.types next (omega (arith, J.within)))
 
-      module _ (r : code.MadeTerm) (w' : List ℕ) (O : OneSays w h.place (sub_of h) f r w') where
+      module _ (r : Result Sub Refusal) (w' : List ℕ) (O : OneSays w h.place (sub_of h) f r w') where
         -- what comes of the topmost of them
         module _ (answer : Answer Made) (g : JoinLeft w₀ from w f left answer) where
           top-by : (os : List A) → g.others ≡ os → length os ≡ left → (P : Answer Made → Type 0) → ((x : A) (q : List A) → g.others ≡ x ∷ q → length q ≡ next → MadeIn w' r (one x g.made) → P (one x g.made >>= λ p. join q p)) → P answer
@@ -89,13 +89,13 @@ module _ {A : Type 0} (made_of : A → Made) (place_of : A → ℕ) (join : List
               let held : TermHeld w (sub_of h) (made_of x) = subst (λ (y : Half). TermHeld w (sub_of y) (made_of x)) (sym at') H.1 in
               subst P (sym (g.going ∙ ap (λ (y : List A). join y g.made) e ∙ join_one x q g.made)) (k x q e n (O.says x g.made place g.state held g.held))
 
-        pub joining-more : (s : Sub) → r ≡ made.At s → Joining w₀ from count e w' s next
+        pub joining-more : (s : Sub) → r ≡ Ok s → Joining w₀ from count e w' s next
         joining-more s i = record {
           within = omega (arith, J.within);
           only = made_on w₀ w w' J.only O.only;
           small = subst SmallMade i O.small;
           says = λ xs m l H S T. let g = J.says xs m l H S T in top-by (join xs m) g g.others refl g.counted (JoinLeft w₀ from w' s next) (λ x q e n M.
-              on-term w' s (λ (a : Answer Made). JoinLeft w₀ from w' s next (a >>= λ p. join q p)) (one x g.made) (subst (λ (a : code.MadeTerm). MadeIn w' a (one x g.made)) i M)
+              on-term w' s (λ (a : Answer Made). JoinLeft w₀ from w' s next (a >>= λ p. join q p)) (one x g.made) (subst (λ (a : Result Sub Refusal). MadeIn w' a (one x g.made)) i M)
               (λ p K U. record {
                 others = q;
                 made = p;
@@ -107,13 +107,12 @@ module _ {A : Type 0} (made_of : A → Made) (place_of : A → ℕ) (join : List
               }));
         }
 
-        pub joining-ends : (n p : ℕ) → r ≡ made.Refused n p → JoinSays made_of place_of join w₀ from count e r w'
-        joining-ends n p i = record {
+        pub joining-ends : (z : Refusal) → r ≡ Err z → JoinSays made_of place_of join w₀ from count e (Err z) w'
+        joining-ends z i = record {
           only = made_on w₀ w w' J.only O.only;
-          small = O.small;
-          says = λ xs m l H S T. let g = J.says xs m l H S T in top-by (join xs m) g g.others refl g.counted (MadeIn w' r) (λ x q e k M.
-              subst (λ (a : code.MadeTerm). MadeIn w' a (one x g.made >>= λ y. join q y)) (sym i)
-              (on-no-term w' n p (λ (a : Answer Made). MadeIn w' (made.Refused n p) (a >>= λ y. join q y)) (one x g.made) (subst (λ (a : code.MadeTerm). MadeIn w' a (one x g.made)) i M) refl));
+          small = subst SmallMade i O.small;
+          says = λ xs m l H S T. let g = J.says xs m l H S T in top-by (join xs m) g g.others refl g.counted (MadeIn w' (Err z)) (λ x q e k M.
+              on-no-term w' z (λ (a : Answer Made). MadeIn w' (Err z) (a >>= λ y. join q y)) (one x g.made) (subst (λ (a : Result Sub Refusal). MadeIn w' a (one x g.made)) i M) refl);
         }
 
 -- ---- elements of a tuple, and pairs that were taken apart
@@ -136,8 +135,8 @@ taken_place p = p.place
 abbrev pub one_projection : Taken → Made → Answer Made
 one_projection p e = over p.place proj e.type p.pair e e.state
 
-pub pair_one : (w : List ℕ) (place : ℕ) (a f : Sub) (r : code.MadeTerm) (w' : List ℕ) → PairSays w place a f r w' → OneSays element_made element_comma pairs_of one_pair (λ m. refl) (λ x xs m. refl) w place a f r w'
+pub pair_one : (w : List ℕ) (place : ℕ) (a f : Sub) (r : Result Sub Refusal) (w' : List ℕ) → PairSays w place a f r w' → OneSays element_made element_comma pairs_of one_pair (λ m. refl) (λ x xs m. refl) w place a f r w'
 pair_one w place a f r w' P = record { only = P.only; small = P.small; says = λ x m e H T U. subst (λ (p : ℕ). MadeIn w' r (pair_of p x.made m)) (sym e) (P.says x.made m H T U) }
 
-pub projection_one : (w : List ℕ) (place : ℕ) (a f : Sub) (r : code.MadeTerm) (w' : List ℕ) → ProjectionSays w place a f r w' → OneSays taken_made taken_place projections one_projection (λ m. refl) (λ x xs m. refl) w place a f r w'
+pub projection_one : (w : List ℕ) (place : ℕ) (a f : Sub) (r : Result Sub Refusal) (w' : List ℕ) → ProjectionSays w place a f r w' → OneSays taken_made taken_place projections one_projection (λ m. refl) (λ x xs m. refl) w place a f r w'
 projection_one w place a f r w' P = record { only = P.only; small = P.small; says = λ x m e H T U. subst (λ (p : ℕ). MadeIn w' r (over p proj m.type x.pair m m.state)) (sym e) (P.says x.pair m H T U) }

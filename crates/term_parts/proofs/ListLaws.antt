@@ -7,7 +7,9 @@ use native.Mathlib.Omega.{arith}
 use native.Mathlib.Decide.{ℕ_discrete}
 use lib.Dec.{eqb}
 use lib.ListN.{length, get_or}
-use borrow.Author.Tests.{eq-eqb, ne_eqb, eqb-true}
+use borrow.Author.Tests.{eq-eqb, ne_eqb}
+use Rattle.std.specs.Prelude.{Some, None, Result, Ok, Err}
+use Rattle.answers.specs.declared.Refusal.{Refusal}
 use Rattle.notation_calculus.specs.Words.{ends, round, endRound, comma, Token, Word}
 use Rattle.notation_calculus.specs.Grammar.{got, peek, behind, place, is, is_name, name_at, nameless}
 use Rattle.notation_machine.specs.Lists.{behind_lists, head_at, in_lists, next_list}
@@ -115,29 +117,32 @@ module _ (text : List ℕ) (at : ℕ) (l : Lexed text at) (w : Said) (s : Stands
   pub list_opens : ListOpens text (from text at) w.place w.end
   list_opens = record { place = s.place; byte = list-byte; inside = round_inside text w.place list-byte; rest = round-onward.rest; fewer = round-onward.fewer; lexed = round-onward.lexed }
 
-  pub head_list : (e : ℕ) → PassedSays text w.end e → HeadSays text at (record { number = 0; place = w.place; end = e })
+  pub head_list : (e : ℕ) → PassedSays text w.end e → HeadSays text at (Ok (record { place = w.place; end = e }))
   head_list e B = record {
-    reads = λ q.
+    reads =
         ap (λ (b : Bool). cond b (got (nameless (place (from text at))) (behind_lists 1 (behind (from text at)))) (name_at (from text at))) (is_yes text at w s round z)
         ∙ ap (λ (p : ℕ). got (nameless p) (behind_lists 1 (behind (from text at)))) (sym s.place)
         ∙ ap (λ (us : List Word). got (nameless w.place) (behind_lists 1 us)) round-onward.rest
         ∙ ap (λ (us : List Word). got (nameless w.place) us) B.rest
         ∙ ap (λ (n : List ℕ). got (record { name = n; place = w.place }) (from text e)) (sym (name_round text w.place list-byte));
-    inside = λ q. round_inside text w.place list-byte;
-    further = λ q. record { fewer = omega (arith, B.fewer, round-onward.fewer); past = omega (arith, B.past, round-onward.past); lexed = B.lexed };
-    refuses = λ q. absurd (q refl);
+    inside = round_inside text w.place list-byte;
+    further = record { fewer = omega (arith, B.fewer, round-onward.fewer); past = omega (arith, B.past, round-onward.past); lexed = B.lexed };
   }
 
 -- where none begins it is a name
-pub head_name : (text : List ℕ) (at : ℕ) (w : Said) → Stands text at w → ¬ (w.code ≡ 11) → (r : NameEnd) → NameSays text at r → HeadSays text at r
-head_name text at w s h r N =
-    let same : head_at (from text at) ≡ name_at (from text at) = ap (λ (b : Bool). cond b (got (nameless (place (from text at))) (behind_lists 1 (behind (from text at)))) (name_at (from text at))) (is_no text at w s round h) in
-    record {
-      reads = λ z. same ∙ N.reads z ∙ ap (λ (n : List ℕ). got (record { name = n; place = r.place }) (from text r.end)) (sym (N.plain z));
+pub head_name : (text : List ℕ) (at : ℕ) (w : Said) → Stands text at w → ¬ (w.code ≡ 11) → (r : Result NameEnd Refusal) → NameSays text at r → HeadSays text at r
+head_name text at w s h = by
+  where
+    same : head_at (from text at) ≡ name_at (from text at)
+    same = ap (λ (b : Bool). cond b (got (nameless (place (from text at))) (behind_lists 1 (behind (from text at)))) (name_at (from text at))) (is_no text at w s round h)
+
+    by : (r : Result NameEnd Refusal) → NameSays text at r → HeadSays text at r
+    by (Ok x) N = record {
+      reads = same ∙ N.reads ∙ ap (λ (n : List ℕ). got (record { name = n; place = x.place }) (from text x.end)) (sym N.plain);
       inside = N.inside;
-      further = λ z. let o = N.onward z in record { fewer = o.fewer; past = o.past; lexed = o.lexed };
-      refuses = λ z. same ∙ N.refuses z;
+      further = let o = N.onward in record { fewer = o.fewer; past = o.past; lexed = o.lexed };
     }
+    by (Err e) N = same ∙ N
 
 -- ---- the next list
 
@@ -197,10 +202,16 @@ module _ (text : List ℕ) (at p : ℕ) (w : Said) (P : Scanning text at p w) wh
     stops-here : next_list (from text at) ≡ from text p
     stops-here = P.same ∙ next-stop (from text p) (code_is false e)
 
-    pub scanning-done : (b : Bool) → b ≡ eqb w.code 11 → NextSays text at (record { found = b; place = w.place; end = w.end })
-    scanning-done b i = record {
-      found = i ∙ ap (λ (c : ℕ). eqb c 11) P.stands.code ∙ eqb_sym (token_code (peek (from text p)).token) 11 ∙ sym (token_is round (peek (from text p)).token) ∙ ap (is round) (sym stops-here);
-      opens = λ z. subst (λ (us : List Word). ListOpens text us w.place w.end) (sym stops-here) (list_opens text p P.lexed w P.stands (eqb-true w.code 11 (sym i ∙ z)));
+    found-is : (b : Bool) → eqb w.code 11 ≡ b → is round (next_list (from text at)) ≡ b
+    found-is b i = sym (sym i ∙ ap (λ (c : ℕ). eqb c 11) P.stands.code ∙ eqb_sym (token_code (peek (from text p)).token) 11 ∙ sym (token_is round (peek (from text p)).token) ∙ ap (is round) (sym stops-here))
+
+    pub scanning-none : ¬ (w.code ≡ 11) → NextSays text at None
+    scanning-none h = (found-is false (ne_eqb w.code 11 h), omega (arith, ap length stops-here, P.fewer))
+
+    pub scanning-done : w.code ≡ 11 → NextSays text at (Some (record { place = w.place; end = w.end }))
+    scanning-done c = record {
+      found = found-is true (eq-eqb w.code 11 c);
+      opens = subst (λ (us : List Word). ListOpens text us w.place w.end) (sym stops-here) (list_opens text p P.lexed w P.stands c);
       fewer = omega (arith, ap length stops-here, P.fewer);
-      past = λ z. let c = eqb-true w.code 11 (sym i ∙ z) in omega (arith, P.past, (P.stands.onward (λ q. absurd (omega arith))).past);
+      past = omega (arith, P.past, (P.stands.onward (λ q. absurd (omega arith))).past);
     }

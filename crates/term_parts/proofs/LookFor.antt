@@ -14,7 +14,7 @@ use Rattle.scopes.specs.Entries.{place_in, value_at, entries_back, last_named, l
 use Rattle.scopes.specs.Frames.{frame_in, HoldsScope}
 use Rattle.scopes.proofs.LookLaws.{FoundLast, look-last, look-placed}
 use Rattle.walks.specs.Walkable.{AllTyped}
-use Rattle.term_parts.specs.declared.variables.Look.TheVariants as look
+use Rattle.std.specs.Prelude.{Some, None}
 use Rattle.term_parts.specs.Parts.{Looked, here, nowhere, look_for, CanLook, LookSays, CanLookAt, LookAtSays}
 
 -- what is done with an answer
@@ -85,10 +85,10 @@ module _ (text w : List ℕ) (name frame top e : ℕ) (is : e ≡ last_named tex
   found : FoundLast text w name first (top - first) 0 e here nowhere (look_for (run_at text name) (entries_back text w first (top - first)))
   found = subst (λ (r : ℕ). FoundLast text w name first (top - first) 0 r here nowhere (look_for (run_at text name) (entries_back text w first (top - first)))) (sym is) (look-last text w name C.some (top - first) first 0 here nowhere)
 
-  pub look-nowhere : e ≤ first → LookSays text w name frame top look.Nowhere
+  pub look-nowhere : e ≤ first → LookSays text w name frame top None
   look-nowhere h = record { says = λ S H u. found_nowhere text w name (run_at text name) first top e C.ordered found h ∙ ap (look_for (run_at text name)) (variables_are text w frame top S H u) }
 
-  pub look-here : ¬ (e ≤ first) → (i t : ℕ) → i ≡ top - e → t ≡ value_at w (e - 1) → LookSays text w name frame top (look.Here i t)
+  pub look-here : ¬ (e ≤ first) → (i t : ℕ) → i ≡ top - e → t ≡ value_at w (e - 1) → LookSays text w name frame top (Some (record { number = i; ty = t }))
   look-here h i t a b = record { says = λ S H u. found_here text w name (run_at text name) first top e C.ordered found h i t a b ∙ ap (look_for (run_at text name)) (variables_are text w frame top S H u) }
 
   pub look-within : e ≤ top
@@ -102,10 +102,10 @@ module _ (w : List ℕ) (place frame top e : ℕ) (is : e ≡ last_placed w plac
   placed : (text : List ℕ) → get_or text place 0 ≡ 40 → FoundLast text w place begin (top - begin) 0 e here nowhere (look_for ((256 + place) ∷ []) (entries_back text w begin (top - begin)))
   placed text r = subst (λ (q : ℕ). FoundLast text w place begin (top - begin) 0 q here nowhere (look_for ((256 + place) ∷ []) (entries_back text w begin (top - begin)))) (sym is) (look-placed text w place r (top - begin) begin 0 here nowhere)
 
-  pub place-nowhere : e ≤ begin → LookAtSays w place frame top look.Nowhere
+  pub place-nowhere : e ≤ begin → LookAtSays w place frame top None
   place-nowhere h = record { says = λ text S r H u. found_nowhere text w place ((256 + place) ∷ []) begin top e C.ordered (placed text r) h ∙ ap (look_for ((256 + place) ∷ [])) (variables_are text w frame top S H u) }
 
-  pub place_here : ¬ (e ≤ begin) → (i t : ℕ) → i ≡ top - e → t ≡ value_at w (e - 1) → LookAtSays w place frame top (look.Here i t)
+  pub place_here : ¬ (e ≤ begin) → (i t : ℕ) → i ≡ top - e → t ≡ value_at w (e - 1) → LookAtSays w place frame top (Some (record { number = i; ty = t }))
   place_here h i t a b = record { says = λ text S r H u. found_here text w place ((256 + place) ∷ []) begin top e C.ordered (placed text r) h i t a b ∙ ap (look_for ((256 + place) ∷ [])) (variables_are text w frame top S H u) }
 
   last_within : (n f : ℕ) → last_placed w place f n ≤ f + n

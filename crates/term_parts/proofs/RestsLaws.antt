@@ -4,7 +4,11 @@ use mathlib.Core.Path.{◌≡◌, refl, sym, ap, ◌∙◌, subst}
 use mathlib.Core.List.{List, [], ◌∷◌}
 use native.Mathlib.Omega.{arith}
 use lib.ListN.{length}
-use Rattle.calculus.specs.Answer.{Answer, good, refused, refuse, ◌>>=◌}
+use Rattle.std.specs.Prelude.{Result, Ok, Err}
+use Rattle.answers.specs.declared.Refusal.{Refusal}
+use Rattle.answers.specs.declared.Reason.{Reason}
+use Rattle.answers.specs.Refusals.{said_why, refusal_at}
+use Rattle.calculus.specs.Answer.{Answer, good, refused, ◌>>=◌}
 use Rattle.calculus.specs.Types.{rec_at}
 use Rattle.calculus.specs.Terms.{var}
 use Rattle.notation_calculus.specs.Words.{Word}
@@ -22,9 +26,8 @@ use Rattle.scopes.specs.Frames.{HoldsScope}
 use Rattle.walks.specs.Walkable.{AllTyped}
 use Rattle.walks.proofs.Kept.{term_on_terms}
 use Rattle.term_parts.specs.declared.halves.Half.{Half}
-use Rattle.term_parts.specs.declared.apart.RestEnd as ended
-use Rattle.term_parts.specs.declared.apart.RestEnd.TheVariants as rest_end
-use Rattle.term_parts.specs.declared.apart.ApartEnd.TheVariants as apart-end
+use Rattle.term_parts.specs.declared.apart.RestEnd.{RestEnd}
+use Rattle.term_parts.specs.declared.apart.RestEnd.{RestEnd}
 use Rattle.term_parts.specs.Names.{names_by, AllNames, listed_names, NamesStand}
 use Rattle.term_parts.specs.Halves.{half_in, sub_of, TakenIn, PartsOnly}
 use Rattle.term_parts.specs.Parts.{parted_by, first_name, second_name, HalfWaits, CanTakeAt, TakeLastSays, RestHeld, RestAnswers, RestNames, TakeRestSays, CanApart, Parting, RestsAnswer, RestsSay, ApartAnswers, ApartSays}
@@ -98,7 +101,7 @@ module _ (text w₀ : List ℕ) (at count top waiting : ℕ) (v : Sub) (C : CanA
   pub rests_can : CanTakeAt text w p (top + 2 * i) (waiting + i) s
   rests_can = parting_safe text w C.frame top waiting i (count - i) p C.S s _ (G.says C.frame C.S C.made C.level C.scope C.state C.held) (record { lexed = G.stand.lexed; all = two_of (count - i) (from text p) (omega (arith, G.within)) G.stand.all }) C.short (omega (arith, C.few, G.within))
 
-  pub rests_done : ¬ (i + 2 < count) → RestsSay text w₀ at count top waiting v (rest_end.At p s) w
+  pub rests_done : ¬ (i + 2 < count) → RestsSay text w₀ at count top waiting v (Ok (record { next = p; sub = s })) w
   rests_done h =
       let z : count - i ≡ 2 = omega (arith, G.within) in
       let y : i ≡ count - 2 = omega (arith, G.within) in
@@ -154,21 +157,21 @@ module _ (text w₀ : List ℕ) (at count top waiting : ℕ) (v : Sub) (C : CanA
               typed = λ a. subst (λ (τ : State). AllTyped (length τ.table) (parted_by P.made (first_name ws) rest P.variables)) (sym R.counts) (typed_more w s P.made P.state P.held (first_name ws) rest P.variables (P.typed (subst (λ (τ : State). AllTyped (length τ.table) S.variables) R.counts a)));
             }
 
-        parting-on : (m : Answer Made) → RestAnswers text w' frame (top + 2 * i + 2) (with_variables S P.variables) (first_name ws) P.made (rest_end.At next q) m → Parting text w' frame top waiting (i + 1) (count - (i + 1)) next S q (m >>= λ r. goes_on_lem r)
+        parting-on : (m : Answer Made) → RestAnswers text w' frame (top + 2 * i + 2) (with_variables S P.variables) (first_name ws) P.made (Ok (record { next = next; sub = q })) m → Parting text w' frame top waiting (i + 1) (count - (i + 1)) next S q (m >>= λ r. goes_on_lem r)
         parting-on (good r) R = parting-good r R
         parting-on (refused why) R = absurd R
 
-      parting-bad : (w' : List ℕ) (n q : ℕ) (m : Answer Made) → RestAnswers text w' frame (top + 2 * i + 2) (with_variables S P.variables) (first_name ws) P.made (rest_end.Refused n q) m → (m >>= λ r. goes_on_lem r) ≡ refuse n q
-      parting-bad w' n q (good r) R = absurd R
-      parting-bad w' n q (refused why) R = ap (λ y. refused y) R
+      parting-bad : (w' : List ℕ) (z : Refusal) (m : Answer Made) → RestAnswers text w' frame (top + 2 * i + 2) (with_variables S P.variables) (first_name ws) P.made (Err z) m → (m >>= λ r. goes_on_lem r) ≡ refused (said_why z)
+      parting-bad w' z (good r) R = absurd R
+      parting-bad w' z (refused why) R = ap (λ y. refused y) R
 
-    module _ (r : ended.RestEnd) (w' : List ℕ) (R : TakeRestSays text w p (top + 2 * i) (waiting + i) s r w') where
+    module _ (r : Result RestEnd Refusal) (w' : List ℕ) (R : TakeRestSays text w p (top + 2 * i) (waiting + i) s r w') where
       all-only : PartsOnly top waiting w₀ w'
       all-only = parts_then top (top + 2 * i) top waiting (waiting + i) waiting w₀ w w' (omega arith) (omega arith) (omega arith) (omega arith) G.only R.only
 
-      pub rests-more : (next : ℕ) (q : Sub) → r ≡ rest_end.At next q → RestsGoing text w₀ at count top waiting v w' next (i + 1) q
+      pub rests-more : (next : ℕ) (q : Sub) → r ≡ Ok (record { next = next; sub = q }) → RestsGoing text w₀ at count top waiting v w' next (i + 1) q
       rests-more next q e =
-          let N : RestNames text ws (rest_end.At next q) = subst (RestNames text ws) e R.next in
+          let N : RestNames text ws (Ok (record { next = next; sub = q })) = subst (RestNames text ws) e R.next in
           let all : AllNames head_at behind (suc (suc (suc later))) ws = subst (λ (k : ℕ). AllNames head_at behind k ws) left_is G.stand.all in
           record {
             within = omega arith;
@@ -176,48 +179,48 @@ module _ (text w₀ : List ℕ) (at count top waiting : ℕ) (v : Sub) (C : CanA
             only = all-only;
             says = λ frame S m l H σ T.
                 let P = G.says frame S m l H σ T in
-                subst (Parting text w' frame top waiting (i + 1) (count - (i + 1)) next S q) (sym (going-is frame S _ P)) (parting-on frame S _ P w' R.only R.waits next N.0 q (restNode frame S _ P) (subst (λ (y : ended.RestEnd). RestAnswers text w' frame (top + 2 * i + 2) (with_variables S P.variables) (first_name ws) P.made y (restNode frame S _ P)) e (R.says frame (with_variables S P.variables) P.made l P.scope P.state P.held)));
+                subst (Parting text w' frame top waiting (i + 1) (count - (i + 1)) next S q) (sym (going-is frame S _ P)) (parting-on frame S _ P w' R.only R.waits next N.0 q (restNode frame S _ P) (subst (λ (y : Result RestEnd Refusal). RestAnswers text w' frame (top + 2 * i + 2) (with_variables S P.variables) (first_name ws) P.made y (restNode frame S _ P)) e (R.says frame (with_variables S P.variables) P.made l P.scope P.state P.held)));
           }
 
-      pub rests-ends : (n q : ℕ) → r ≡ rest_end.Refused n q → RestsSay text w₀ at count top waiting v r w'
-      rests-ends n q e = subst (λ (y : ended.RestEnd). RestsSay text w₀ at count top waiting v y w') (sym e) (record {
+      pub rests-ends : (z : Refusal) → r ≡ Err z → RestsSay text w₀ at count top waiting v (Err z) w'
+      rests-ends z e = record {
         only = all-only;
         next = tt;
         says = λ frame S m l H σ T.
             let P = G.says frame S m l H σ T in
-            going-is frame S _ P ∙ parting-bad frame S _ P w' n q (restNode frame S _ P) (subst (λ (y : ended.RestEnd). RestAnswers text w' frame (top + 2 * i + 2) (with_variables S P.variables) (first_name ws) P.made y (restNode frame S _ P)) e (R.says frame (with_variables S P.variables) P.made l P.scope P.state P.held));
-      })
+            going-is frame S _ P ∙ parting-bad frame S _ P w' z (restNode frame S _ P) (subst (λ (y : Result RestEnd Refusal). RestAnswers text w' frame (top + 2 * i + 2) (with_variables S P.variables) (first_name ws) P.made y (restNode frame S _ P)) e (R.says frame (with_variables S P.variables) P.made l P.scope P.state P.held));
+      }
 
 -- ---- all names
 
-few-names : (text w : List ℕ) (frame waiting at count : ℕ) (S : Scope) (m : Made) → count < 2 → ApartAnswers text w frame waiting S (apart-end.Refused 32 0) (apart_from S.variables (listed_names text at count) m [])
+few-names : (text w : List ℕ) (frame waiting at count : ℕ) (S : Scope) (m : Made) → count < 2 → ApartAnswers text w frame waiting S (Err (refusal_at Reason.OtherWordDue 0)) (apart_from S.variables (listed_names text at count) m [])
 few-names text w frame waiting at zero S m h = refl
 few-names text w frame waiting at (suc zero) S m h = refl
 few-names text w frame waiting at (suc (suc n)) S m h = absurd (omega arith)
 
-pub apart-few : (text w : List ℕ) (at count top waiting : ℕ) (v : Sub) → count < 2 → ApartSays text w at count top waiting v (apart-end.Refused 32 0) w
+pub apart-few : (text w : List ℕ) (at count top waiting : ℕ) (v : Sub) → count < 2 → ApartSays text w at count top waiting v (Err (refusal_at Reason.OtherWordDue 0)) w
 apart-few text w at count top waiting v h = record { only = parts_none top waiting w; says = λ frame S m l H σ T. few-names text w frame waiting at count S m h }
 
-module _ (text w₀ : List ℕ) (at count top waiting : ℕ) (v : Sub) (r : ended.RestEnd) (w : List ℕ) (R : RestsSay text w₀ at count top waiting v r w) where
-  pub apart_refused : (n p : ℕ) → r ≡ rest_end.Refused n p → ApartSays text w₀ at count top waiting v (apart-end.Refused n p) w
-  apart_refused n p e = record {
+module _ (text w₀ : List ℕ) (at count top waiting : ℕ) (v : Sub) (r : Result RestEnd Refusal) (w : List ℕ) (R : RestsSay text w₀ at count top waiting v r w) where
+  pub apart_refused : (z : Refusal) → r ≡ Err z → ApartSays text w₀ at count top waiting v (Err z) w
+  apart_refused z e = record {
     only = R.only;
-    says = λ frame S m l H σ T. subst (ApartAnswers text w frame waiting S (apart-end.Refused n p)) (sym (subst (λ (y : ended.RestEnd). RestsAnswer text w frame top waiting (count - 2) S y (apart_from S.variables (listed_names text at count) m [])) e (R.says frame S m l H σ T))) refl;
+    says = λ frame S m l H σ T. subst (ApartAnswers text w frame waiting S (Err z)) (sym (subst (λ (y : Result RestEnd Refusal). RestsAnswer text w frame top waiting (count - 2) S y (apart_from S.variables (listed_names text at count) m [])) e (R.says frame S m l H σ T))) refl;
   }
 
-  module _ (p : ℕ) (s : Sub) (e : r ≡ rest_end.At p s) where
-    rests-now : RestsSay text w₀ at count top waiting v (rest_end.At p s) w
-    rests-now = subst (λ (y : ended.RestEnd). RestsSay text w₀ at count top waiting v y w) e R
+  module _ (p : ℕ) (s : Sub) (e : r ≡ Ok (record { next = p; sub = s })) where
+    rests-now : RestsSay text w₀ at count top waiting v (Ok (record { next = p; sub = s })) w
+    rests-now = subst (λ (y : Result RestEnd Refusal). RestsSay text w₀ at count top waiting v y w) e R
 
     pub last-can : CanApart text w₀ at count top waiting v → 2 ≤ count → CanTakeAt text w p (top + 2 * (count - 2)) (waiting + (count - 2)) s
     last-can C h = parting_safe text w C.frame top waiting (count - 2) 2 p C.S s _ (rests-now.says C.frame C.S C.made C.level C.scope C.state C.held) rests-now.next C.short (omega (arith, C.few))
 
-    pub apart-last : (w' : List ℕ) → TakeLastSays text w p (top + 2 * (count - 2)) (waiting + (count - 2)) s w' → ApartSays text w₀ at count top waiting v (apart-end.At (top + 2 * (count - 2) + 2) (waiting + (count - 2) + 1)) w'
+    pub apart-last : (w' : List ℕ) → TakeLastSays text w p (top + 2 * (count - 2)) (waiting + (count - 2)) s w' → ApartSays text w₀ at count top waiting v (Ok (record { top = top + 2 * (count - 2) + 2; waiting = waiting + (count - 2) + 1 })) w'
     apart-last w' L = record {
       only = parts_then top (top + 2 * (count - 2)) top waiting (waiting + (count - 2)) waiting w₀ w w' (omega arith) (omega arith) (omega arith) (omega arith) R.only L.only;
       says = λ frame S m l H σ T.
           let P = rests-now.says frame S m l H σ T in
-          subst (ApartAnswers text w' frame waiting S (apart-end.At (top + 2 * (count - 2) + 2) (waiting + (count - 2) + 1))) (sym P.going) (record {
+          subst (ApartAnswers text w' frame waiting S (Ok (record { top = top + 2 * (count - 2) + 2; waiting = waiting + (count - 2) + 1 }))) (sym P.going) (record {
             scope = L.scope frame (with_variables S P.variables) P.made l P.scope P.state P.held;
             state = L.state P.made.state P.state;
             taken = taken_more text w w' (top + 2 * (count - 2)) waiting (count - 2) L.only s P.made P.held (first_name (from text p)).place L.waits P.taken P.counted P.waits;

@@ -1,7 +1,8 @@
 -- Terms that wait in the working memory, four numbers each: elements of a tuple before the comma behind them, and pairs that are taken apart
 -- for a name. Assumes nothing.
-use Rattle.std.specs.Prelude.{ℕ, ◌+◌, ◌*◌, ◌≤◌, ◌<◌, ◌≡◌, List, [], ◌∷◌, length, get_or}
+use Rattle.std.specs.Prelude.{ℕ, ◌+◌, ◌*◌, ◌≤◌, ◌<◌, ◌≡◌, List, [], ◌∷◌, length, get_or, Result}
 use Rattle.std.proofs.lemmas.List.Edits.{sets}
+use Rattle.answers.specs.declared.Refusal.{Refusal}
 use Rattle.calculus.specs.Answer.{Answer}
 use Rattle.notation_calculus.specs.Making.{Made}
 use Rattle.notation_machine.specs.TermMachine.{Element, Taken, pairs_of, projections}
@@ -9,7 +10,6 @@ use Rattle.making_memory.specs.Map.{halves_at, making_size}
 use Rattle.made_types.specs.Held.{HoldsState}
 use Rattle.made_nodes.specs.Held.{TermHeld, MadeIn, SmallMade, MadeOnly, Workable}
 use Rattle.made_nodes.specs.declared.Sub.{Sub}
-use Rattle.made_nodes.specs.declared.MadeTerm as code
 use Rattle.walks.specs.Walked.{TermsWalked}
 use Rattle.term_parts.specs.declared.halves.Half.{Half}
 
@@ -60,13 +60,13 @@ pub record CanJoin (w : List ℕ) (from count : ℕ) (e : Sub) : Type 0 where
   pub types : (i : ℕ) → i < count → (half_in w (from + i)).ty < 256
   pub type : e.ty < 256
 
-pub record JoinSays {A : Type 0} (made : A → Made) (place : A → ℕ) (join : List A → Made → Answer Made) (w : List ℕ) (from count : ℕ) (e : Sub) (r : code.MadeTerm) (w' : List ℕ) : Type 0 where
+pub record JoinSays {A : Type 0} (made : A → Made) (place : A → ℕ) (join : List A → Made → Answer Made) (w : List ℕ) (from count : ℕ) (e : Sub) (r : Result Sub Refusal) (w' : List ℕ) : Type 0 where
   pub only : MadeOnly w w'
   pub small : SmallMade r
   pub says : (as' : List A) (m : Made) → length as' ≡ count → HalvesIn made place w from as' → HoldsState w m.state → TermHeld w e m → MadeIn w' r (join as' m)
 
-abbrev pub PairsSay : List ℕ → ℕ → ℕ → Sub → code.MadeTerm → List ℕ → Type 0
+abbrev pub PairsSay : List ℕ → ℕ → ℕ → Sub → Result Sub Refusal → List ℕ → Type 0
 PairsSay w from count e r w' = JoinSays (λ (a : Element). a.made) (λ (a : Element). a.comma) pairs_of w from count e r w'
 
-abbrev pub ProjectionsSay : List ℕ → ℕ → ℕ → Sub → code.MadeTerm → List ℕ → Type 0
+abbrev pub ProjectionsSay : List ℕ → ℕ → ℕ → Sub → Result Sub Refusal → List ℕ → Type 0
 ProjectionsSay w from count e r w' = JoinSays (λ (p : Taken). p.pair) (λ (p : Taken). p.place) projections w from count e r w'

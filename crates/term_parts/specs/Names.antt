@@ -1,7 +1,9 @@
 -- Names that stand one after the other in a text: those of `fun`, up to the colon, and those of a list, with commas between, where a list may stand
 -- for a name. Assumes nothing.
-use Rattle.std.specs.Prelude.{ℕ, zero, suc, ◌+◌, ◌-◌, ◌≤◌, ◌<◌, ◌≡◌, Bool, true, ◌||◌, cond, List, [], ◌∷◌, eqb, length, get_or}
-use Rattle.calculus.specs.Answer.{Answer, refuse}
+use Rattle.std.specs.Prelude.{ℕ, zero, suc, ◌+◌, ◌-◌, ◌≤◌, ◌<◌, ◌≡◌, Bool, true, ◌||◌, cond, List, [], ◌∷◌, eqb, length, get_or, false, Option, Some, None, Result, Ok, Err}
+use Rattle.calculus.specs.Answer.{Answer, refused}
+use Rattle.answers.specs.declared.Refusal.{Refusal}
+use Rattle.answers.specs.Refusals.{said_why}
 use Rattle.notation_calculus.specs.Words.{round, Word}
 use Rattle.notation_calculus.specs.Trees.{Bound}
 use Rattle.notation_calculus.specs.Grammar.{Got, got, behind, place, is, name_at, list_from, names_from}
@@ -48,13 +50,17 @@ pub record NamesStand (one : List Word → Answer (Got Bound)) (next : List Word
 
 -- ---- what the code says
 
--- one name at an offset: its place and the offset behind it; or a refusal
-pub record NameSays (text : List ℕ) (at : ℕ) (r : NameEnd) : Type 0 where
-  pub reads : r.number ≡ 0 → name_at (from text at) ≡ got (bound_at text r.place) (from text r.end)
-  pub plain : r.number ≡ 0 → name_in text r.place ≡ run_at text r.place
-  pub inside : r.number ≡ 0 → r.place < length text
-  pub onward : r.number ≡ 0 → Onward text at r.end
-  pub refuses : ¬ (r.number ≡ 0) → name_at (from text at) ≡ refuse r.number r.place
+-- one name at an offset: its place and the offset behind it
+pub record ReadsName (text : List ℕ) (at : ℕ) (x : NameEnd) : Type 0 where
+  pub reads : name_at (from text at) ≡ got (bound_at text x.place) (from text x.end)
+  pub plain : name_in text x.place ≡ run_at text x.place
+  pub inside : x.place < length text
+  pub onward : Onward text at x.end
+
+-- .. or a refusal
+abbrev pub NameSays : List ℕ → ℕ → Result NameEnd Refusal → Type 0
+NameSays text at (Ok x) = ReadsName text at x
+NameSays text at (Err e) = name_at (from text at) ≡ refused (said_why e)
 
 -- an offset behind one or more words
 pub record Further (text : List ℕ) (at next : ℕ) : Type 0 where
@@ -62,27 +68,35 @@ pub record Further (text : List ℕ) (at next : ℕ) : Type 0 where
   pub past : at < next
   pub lexed : Lexed text next
 
--- one of a list: the place of its name or of its parenthesis, and the offset behind it; or a refusal
-pub record HeadSays (text : List ℕ) (at : ℕ) (r : NameEnd) : Type 0 where
-  pub reads : r.number ≡ 0 → head_at (from text at) ≡ got (bound_in text r.place) (from text r.end)
-  pub inside : r.number ≡ 0 → r.place < length text
-  pub further : r.number ≡ 0 → Further text at r.end
-  pub refuses : ¬ (r.number ≡ 0) → head_at (from text at) ≡ refuse r.number r.place
+-- one of a list: the place of its name or of its parenthesis, and the offset behind it
+pub record HeadRead (text : List ℕ) (at : ℕ) (x : NameEnd) : Type 0 where
+  pub reads : head_at (from text at) ≡ got (bound_in text x.place) (from text x.end)
+  pub inside : x.place < length text
+  pub further : Further text at x.end
 
--- names as `read` reads them in any number of rounds that is above the number of words: how many, and the offset behind them; or a refusal
-pub record NamesSay (one : List Word → Answer (Got Bound)) (next : List Word → List Word) (read : ℕ → List Word → Answer (Got (List Bound))) (text : List ℕ) (at : ℕ) (r : NamesEnd) : Type 0 where
-  pub reads : r.number ≡ 0 → (n : ℕ) → length (from text at) < n → read n (from text at) ≡ got (names_by one next r.count (from text at)) (from text r.end)
-  pub stand : r.number ≡ 0 → NamesStand one next text at r.count
-  pub lexed : r.number ≡ 0 → Lexed text r.end
-  pub some : r.number ≡ 0 → 0 < r.count
-  pub few : r.count ≤ length text
-  pub refuses : ¬ (r.number ≡ 0) → (n : ℕ) → length (from text at) < n → read n (from text at) ≡ refuse r.number r.end
+-- .. or a refusal
+abbrev pub HeadSays : List ℕ → ℕ → Result NameEnd Refusal → Type 0
+HeadSays text at (Ok x) = HeadRead text at x
+HeadSays text at (Err e) = head_at (from text at) ≡ refused (said_why e)
+
+-- names as `read` reads them in any number of rounds that is above the number of words: how many, and the offset behind them
+pub record NamesRead (one : List Word → Answer (Got Bound)) (next : List Word → List Word) (read : ℕ → List Word → Answer (Got (List Bound))) (text : List ℕ) (at : ℕ) (x : NamesEnd) : Type 0 where
+  pub reads : (n : ℕ) → length (from text at) < n → read n (from text at) ≡ got (names_by one next x.count (from text at)) (from text x.end)
+  pub stand : NamesStand one next text at x.count
+  pub lexed : Lexed text x.end
+  pub some : 0 < x.count
+  pub few : x.count ≤ length text
+
+-- .. or a refusal
+abbrev pub NamesSay : (List Word → Answer (Got Bound)) → (List Word → List Word) → (ℕ → List Word → Answer (Got (List Bound))) → List ℕ → ℕ → Result NamesEnd Refusal → Type 0
+NamesSay one next read text at (Ok x) = NamesRead one next read text at x
+NamesSay one next read text at (Err e) = (n : ℕ) → length (from text at) < n → read n (from text at) ≡ refused (said_why e)
 
 -- of `fun`, of a list
-abbrev pub SpacedSay : List ℕ → ℕ → NamesEnd → Type 0
+abbrev pub SpacedSay : List ℕ → ℕ → Result NamesEnd Refusal → Type 0
 SpacedSay text at r = NamesSay name_at spaced names_from text at r
 
-abbrev pub ListedSay : List ℕ → ℕ → NamesEnd → Type 0
+abbrev pub ListedSay : List ℕ → ℕ → Result NamesEnd Refusal → Type 0
 ListedSay text at r = NamesSay head_at behind (list_from head_at) text at r
 
 -- the first two names of a list: their places, and the offset of the second
@@ -120,9 +134,14 @@ pub record ListOpens (text : List ℕ) (us : List Word) (round' end : ℕ) : Typ
   pub fewer : length (from text end) < length us
   pub lexed : Lexed text end
 
--- the next list from an offset on, or none
-pub record NextSays (text : List ℕ) (at : ℕ) (r : NextList) : Type 0 where
-  pub found : r.found ≡ is round (next_list (from text at))
-  pub opens : r.found ≡ true → ListOpens text (next_list (from text at)) r.place r.end
+-- the next list from an offset on
+pub record NextRead (text : List ℕ) (at : ℕ) (x : NextList) : Type 0 where
+  pub found : is round (next_list (from text at)) ≡ true
+  pub opens : ListOpens text (next_list (from text at)) x.place x.end
   pub fewer : length (next_list (from text at)) ≤ length (from text at)
-  pub past : r.found ≡ true → at < r.end
+  pub past : at < x.end
+
+-- .. or none
+abbrev pub NextSays : List ℕ → ℕ → Option NextList → Type 0
+NextSays text at (Some x) = NextRead text at x
+NextSays text at None = (is round (next_list (from text at)) ≡ false) × (length (next_list (from text at)) ≤ length (from text at))

@@ -1,7 +1,9 @@
 -- Names bound, pairs taken apart, variables looked up: in each record, whatever scope, state and terms the memory held, the answer is that of
 -- the definition. Assumes nothing.
-use Rattle.std.specs.Prelude.{ℕ, ◌+◌, ◌*◌, ◌-◌, ◌≤◌, ◌<◌, ◌≡◌, List, [], length, get_or, drop}
-use Rattle.calculus.specs.Answer.{Answer, good, refused, numbered, refuse}
+use Rattle.std.specs.Prelude.{ℕ, ◌+◌, ◌*◌, ◌-◌, ◌≤◌, ◌<◌, ◌≡◌, List, [], length, get_or, drop, Option, Some, None, Result, Ok, Err}
+use Rattle.answers.specs.declared.Refusal.{Refusal}
+use Rattle.answers.specs.Refusals.{said_why}
+use Rattle.calculus.specs.Answer.{Answer, good, refused}
 use Rattle.calculus.specs.Types.{rec_at}
 use Rattle.calculus.specs.Terms.{var}
 use Rattle.notation_calculus.specs.Words.{Name, Word, run}
@@ -17,19 +19,17 @@ use Rattle.made_types.specs.Held.{HoldsState}
 use Rattle.made_nodes.specs.Held.{TermHeld, MadeIn, MadeOnly}
 use Rattle.made_nodes.specs.Forms.{NamesIn}
 use Rattle.made_nodes.specs.declared.Sub.{Sub}
-use Rattle.made_nodes.specs.declared.MadeTerm as code
 use Rattle.clauses.specs.Groups.{value_in, rest_in_lem}
 use Rattle.clauses.specs.Rows.{no_bound}
 use Rattle.scopes.specs.Entries.{place_in, OnlyEntries, Places}
 use Rattle.scopes.specs.Frames.{frame_in, HoldsScope}
 use Rattle.scopes.specs.Named.{CanName}
 use Rattle.walks.specs.Walkable.{AllTyped}
-use Rattle.term_parts.specs.declared.apart.ApartEnd as parted
-use Rattle.term_parts.specs.declared.apart.ApartEnd.TheVariants as apart-end
-use Rattle.term_parts.specs.declared.apart.RestEnd as ended
-use Rattle.term_parts.specs.declared.apart.RestEnd.TheVariants as rest_end
-use Rattle.term_parts.specs.declared.variables.Look as looked
-use Rattle.term_parts.specs.declared.variables.Look.TheVariants as look
+use Rattle.term_parts.specs.declared.apart.ApartEnd.{ApartEnd}
+use Rattle.term_parts.specs.declared.apart.ApartEnd.{ApartEnd}
+use Rattle.term_parts.specs.declared.apart.RestEnd.{RestEnd}
+use Rattle.term_parts.specs.declared.apart.RestEnd.{RestEnd}
+use Rattle.term_parts.specs.declared.variables.Look.{Look}
 use Rattle.term_parts.specs.Names.{NamesStand, spaced, spaced_names, listed_names}
 use Rattle.term_parts.specs.Halves.{most_halves, half_in, TakenIn, PartsOnly}
 
@@ -59,9 +59,9 @@ pub data Looked : Type 0 where
   here : ℕ → ℕ → Looked
   nowhere : Looked
 
-abbrev pub said_look : looked.Look → Looked
-said_look (look.Here i t) = here i t
-said_look look.Nowhere = nowhere
+abbrev pub said_look : Option Look → Looked
+said_look (Some v) = here v.number v.ty
+said_look None = nowhere
 
 abbrev pub look_for : Name → List Entry → Looked
 look_for n Γ = lookup n Γ 0 here nowhere
@@ -74,7 +74,7 @@ pub record CanLook (text w : List ℕ) (name frame top : ℕ) : Type 0 where
   pub some : 0 < run (drop name text)
 
 -- the variables begin where the frame says
-pub record LookSays (text w : List ℕ) (name frame top : ℕ) (r : looked.Look) : Type 0 where
+pub record LookSays (text w : List ℕ) (name frame top : ℕ) (r : Option Look) : Type 0 where
   pub says : (S : Scope) → HoldsScope text w frame top S → (frame_in w frame).variables ≡ S.under → said_look r ≡ look_for (run_at text name) S.variables
 
 -- the nameless variable of a list can be looked up
@@ -85,7 +85,7 @@ pub record CanLookAt (w : List ℕ) (frame top : ℕ) : Type 0 where
   pub ordered : (frame_in w frame).variables ≤ top
 
 -- .. by the place of its parenthesis, in whatever text
-pub record LookAtSays (w : List ℕ) (place frame top : ℕ) (r : looked.Look) : Type 0 where
+pub record LookAtSays (w : List ℕ) (place frame top : ℕ) (r : Option Look) : Type 0 where
   pub says : (text : List ℕ) (S : Scope) → get_or text place 0 ≡ 40 → HoldsScope text w frame top S → (frame_in w frame).variables ≡ S.under → said_look r ≡ look_for (nameless place).name S.variables
 
 -- ---- pairs taken apart
@@ -110,7 +110,7 @@ pub record TakeSays (w : List ℕ) (entry half place other : ℕ) (v : Sub) (w' 
       → HoldsScope text w' frame (entry + 2) (with_variables S (bind y (halves_of (rec_at m.state.table m.type)).right (bind x (halves_of (rec_at m.state.table m.type)).left S.variables)))
 
 -- the rest of a pair as a variable of its own
-pub record RestSays (w : List ℕ) (place : ℕ) (v : Sub) (r : code.MadeTerm) (w' : List ℕ) : Type 0 where
+pub record RestSays (w : List ℕ) (place : ℕ) (v : Sub) (r : Result Sub Refusal) (w' : List ℕ) : Type 0 where
   pub only : MadeOnly w w'
   pub says : (σ : State) (m : Made) → HoldsState w σ → TermHeld w v m → MadeIn w' r (node place (var 0) (halves_of (rec_at σ.table m.type)).right 0 [] σ)
 
@@ -155,18 +155,18 @@ pub record RestHeld (text w : List ℕ) (frame top : ℕ) (S : Scope) (s : Sub) 
   pub state : HoldsState w r.state
   pub held : TermHeld w s r
 
-abbrev pub RestAnswers : List ℕ → List ℕ → ℕ → ℕ → Scope → Bound → Made → ended.RestEnd → Answer Made → Type 0
-RestAnswers text w frame top S x m (rest_end.At next s) (good r) = RestHeld text w frame top S s x m r
-RestAnswers text w frame top S x m (rest_end.At next s) (refused why) = ⊥
-RestAnswers text w frame top S x m (rest_end.Refused number place) (good r) = ⊥
-RestAnswers text w frame top S x m (rest_end.Refused number place) (refused why) = why ≡ numbered number place
+abbrev pub RestAnswers : List ℕ → List ℕ → ℕ → ℕ → Scope → Bound → Made → Result RestEnd Refusal → Answer Made → Type 0
+RestAnswers text w frame top S x m (Ok t) (good r) = RestHeld text w frame top S t.sub x m r
+RestAnswers text w frame top S x m (Ok t) (refused why) = ⊥
+RestAnswers text w frame top S x m (Err e) (good r) = ⊥
+RestAnswers text w frame top S x m (Err e) (refused why) = why ≡ said_why e
 
 -- the names that are left stand at an offset
-abbrev pub RestNames : List ℕ → List Word → ended.RestEnd → Type 0
-RestNames text ws (rest_end.At next s) = (behind (rest_in_lem (head_at ws)) ≡ from text next) × Lexed text next
-RestNames text ws (rest_end.Refused number place) = Unit {0}
+abbrev pub RestNames : List ℕ → List Word → Result RestEnd Refusal → Type 0
+RestNames text ws (Ok t) = (behind (rest_in_lem (head_at ws)) ≡ from text t.next) × Lexed text t.next
+RestNames text ws (Err e) = Unit {0}
 
-pub record TakeRestSays (text w : List ℕ) (at entry half : ℕ) (v : Sub) (r : ended.RestEnd) (w' : List ℕ) : Type 0 where
+pub record TakeRestSays (text w : List ℕ) (at entry half : ℕ) (v : Sub) (r : Result RestEnd Refusal) (w' : List ℕ) : Type 0 where
   pub only : PartsOnly entry half w w'
   pub waits : HalfWaits w' half v (first_name (from text at)).place
   pub next : RestNames text (from text at) r
@@ -205,15 +205,15 @@ pub record Parting (text w : List ℕ) (frame top waiting i left at : ℕ) (S : 
   pub typed : AllTyped (length made.state.table) S.variables → AllTyped (length made.state.table) variables
 
 -- all names but the last two
-abbrev pub RestsAnswer : List ℕ → List ℕ → ℕ → ℕ → ℕ → ℕ → Scope → ended.RestEnd → Answer Apart → Type 0
-RestsAnswer text w frame top waiting i S (rest_end.At p s) answer = Parting text w frame top waiting i 2 p S s answer
-RestsAnswer text w frame top waiting i S (rest_end.Refused number place) answer = answer ≡ refuse number place
+abbrev pub RestsAnswer : List ℕ → List ℕ → ℕ → ℕ → ℕ → ℕ → Scope → Result RestEnd Refusal → Answer Apart → Type 0
+RestsAnswer text w frame top waiting i S (Ok t) answer = Parting text w frame top waiting i 2 t.next S t.sub answer
+RestsAnswer text w frame top waiting i S (Err e) answer = answer ≡ refused (said_why e)
 
-abbrev pub RestsStand : List ℕ → ended.RestEnd → Type 0
-RestsStand text (rest_end.At p s) = NamesStand head_at behind text p 2
-RestsStand text (rest_end.Refused number place) = Unit {0}
+abbrev pub RestsStand : List ℕ → Result RestEnd Refusal → Type 0
+RestsStand text (Ok t) = NamesStand head_at behind text t.next 2
+RestsStand text (Err e) = Unit {0}
 
-pub record RestsSay (text w : List ℕ) (at count top waiting : ℕ) (v : Sub) (r : ended.RestEnd) (w' : List ℕ) : Type 0 where
+pub record RestsSay (text w : List ℕ) (at count top waiting : ℕ) (v : Sub) (r : Result RestEnd Refusal) (w' : List ℕ) : Type 0 where
   pub only : PartsOnly top waiting w w'
   pub next : RestsStand text r
   pub says :
@@ -229,13 +229,13 @@ pub record ApartHeld (text w : List ℕ) (frame top waiting most : ℕ) (S : Sco
   pub fewer : most ≤ get_or w node_count_at 0
   pub typed : AllTyped (length a.state.table) S.variables → AllTyped (length a.state.table) a.variables
 
-abbrev pub ApartAnswers : List ℕ → List ℕ → ℕ → ℕ → Scope → parted.ApartEnd → Answer Apart → Type 0
-ApartAnswers text w frame waiting S (apart-end.At top most) (good a) = ApartHeld text w frame top waiting most S a
-ApartAnswers text w frame waiting S (apart-end.At top most) (refused why) = ⊥
-ApartAnswers text w frame waiting S (apart-end.Refused number place) (good a) = ⊥
-ApartAnswers text w frame waiting S (apart-end.Refused number place) (refused why) = why ≡ numbered number place
+abbrev pub ApartAnswers : List ℕ → List ℕ → ℕ → ℕ → Scope → Result ApartEnd Refusal → Answer Apart → Type 0
+ApartAnswers text w frame waiting S (Ok t) (good a) = ApartHeld text w frame t.top waiting t.waiting S a
+ApartAnswers text w frame waiting S (Ok t) (refused why) = ⊥
+ApartAnswers text w frame waiting S (Err e) (good a) = ⊥
+ApartAnswers text w frame waiting S (Err e) (refused why) = why ≡ said_why e
 
-pub record ApartSays (text w : List ℕ) (at count top waiting : ℕ) (v : Sub) (r : parted.ApartEnd) (w' : List ℕ) : Type 0 where
+pub record ApartSays (text w : List ℕ) (at count top waiting : ℕ) (v : Sub) (r : Result ApartEnd Refusal) (w' : List ℕ) : Type 0 where
   pub only : PartsOnly top waiting w w'
   pub says :
       (frame : ℕ) (S : Scope) (m : Made) → frame < 82 → HoldsScope text w frame top S → HoldsState w m.state → TermHeld w v m

@@ -5,13 +5,14 @@ ghost use Rattle.term_parts.specs.Parts.{CanTake, TakeSays, RestSays, CanTakeAt,
 
 use crate::halves::Half;
 use crate::{bound, halves, names};
-use made_nodes::{MadeTerm, Node, Sub};
+use answers::{Reason, Refusal};
+use made_nodes::{Node, Sub};
 
-// How many entries and how many terms that wait there are now; or a refusal's number and its place.
+// How many entries and how many terms that wait there are now.
 #[derive(Clone, Copy)]
-pub enum ApartEnd {
-    At(usize, usize),
-    Refused(u8, usize),
+pub struct ApartEnd {
+    pub top: usize,
+    pub waiting: usize,
 }
 
 // A pair's halves are bound to the names at two places, and the pair waits with the first of them.
@@ -33,7 +34,7 @@ fn take(work: &mut [u16], entry: usize, half: usize, place: usize, other: usize,
 }
 
 // The rest of a pair as the nearest variable.
-fn rest_of(work: &mut [u16], place: u16, v: Sub) -> MadeTerm
+fn rest_of(work: &mut [u16], place: u16, v: Sub) -> Result<Sub, Refusal>
     requires { InTypes work.old v.ty }
     ensures { RestSays work.old place v result work.new }
 {
@@ -48,25 +49,29 @@ fn rest_of(work: &mut [u16], place: u16, v: Sub) -> MadeTerm
     made_nodes::add(work, n, right, 0)
 }
 
-// The rest of a pair that was taken apart, and the offset of the names that are left for it; or a refusal's number and its place.
+// The rest of a pair that was taken apart, and the offset of the names that are left for it.
 #[derive(Clone, Copy)]
-pub enum RestEnd {
-    At(usize, Sub),
-    Refused(u8, usize),
+pub struct RestEnd {
+    pub next: usize,
+    pub sub: Sub,
 }
 
 // A pair is taken apart for the first name at an offset and for its rest, which has the place of no name.
-fn take_rest(text: &[u8], work: &mut [u16], at: usize, entry: usize, half: usize, v: Sub) -> RestEnd
+fn take_rest(
+    text: &[u8],
+    work: &mut [u16],
+    at: usize,
+    entry: usize,
+    half: usize,
+    v: Sub,
+) -> Result<RestEnd, Refusal>
     requires { CanTakeAt text.now work.old at entry half v }
     ensures { TakeRestSays text.now work.old at entry half v result work.new }
 {
     let t = names::two_names(text, at);
     take(work, entry, half, t.first, text.len(), v);
-    let made = rest_of(work, t.second as u16, v);
-    match made {
-        MadeTerm::Refused(why, place) => RestEnd::Refused(why, made_types::wide(place)),
-        MadeTerm::At(r) => RestEnd::At(t.next, r),
-    }
+    let sub = rest_of(work, t.second as u16, v)?;
+    Ok(RestEnd { next: t.next, sub })
 }
 
 // The last pair is taken apart for the last two names.
@@ -87,23 +92,18 @@ fn take_rests(
     top: usize,
     waiting: usize,
     v: Sub,
-) -> RestEnd
+) -> Result<RestEnd, Refusal>
     requires { (CanApart text.now work.old at count top waiting v) × (2 ≤ count) }
     ensures { RestsSay text.now work.old at count top waiting v result work.new }
 {
     let mut p = at;
-    let mut i: usize = 0;
     let mut s = v;
-    while i + 2 < count {
-        let rest = take_rest(text, work, p, top + 2 * i, waiting + i, s);
-        let RestEnd::At(next, r) = rest else {
-            return rest;
-        };
-        p = next;
-        s = r;
-        i = i + 1;
+    for i in 0..count - 2 {
+        let rest = take_rest(text, work, p, top + 2 * i, waiting + i, s)?;
+        p = rest.next;
+        s = rest.sub;
     }
-    RestEnd::At(p, s)
+    Ok(RestEnd { next: p, sub: s })
 }
 
 // A pair taken apart for the names of a list at an offset.
@@ -115,20 +115,25 @@ pub fn apart(
     top: usize,
     waiting: usize,
     v: Sub,
-) -> ApartEnd
+) -> Result<ApartEnd, Refusal>
     requires { CanApart text.now work.old at count top waiting v }
     ensures { ApartSays text.now work.old at count top waiting v result work.new }
 {
     if count < 2 {
-        return ApartEnd::Refused(32, 0);
+        return Err(Reason::OtherWordDue.at(0));
     }
-    let rests = take_rests(text, work, at, count, top, waiting, v);
-    match rests {
-        RestEnd::Refused(why, place) => ApartEnd::Refused(why, place),
-        RestEnd::At(p, s) => {
-            let taken = count - 2;
-            take_last(text, work, p, top + 2 * taken, waiting + taken, s);
-            ApartEnd::At(top + 2 * taken + 2, waiting + taken + 1)
-        }
-    }
+    let rests = take_rests(text, work, at, count, top, waiting, v)?;
+    let taken = count - 2;
+    take_last(
+        text,
+        work,
+        rests.next,
+        top + 2 * taken,
+        waiting + taken,
+        rests.sub,
+    );
+    Ok(ApartEnd {
+        top: top + 2 * taken + 2,
+        waiting: waiting + taken + 1,
+    })
 }

@@ -19,12 +19,10 @@ pub fn bind_names(text: &[u8], work: &mut [u16], at: usize, count: usize, top: u
     requires { CanBind text.now work.old at count top }
     ensures { NamesBound text.now work.old at count top ty work.new }
 {
-    let mut i: usize = 0;
     let mut p = at;
-    while i < count {
-        let x = crate::names::name_at(text, p);
+    for i in 0..count {
+        let x = crate::names::name_at(text, p).unwrap();
         bind_name(work, top + i, x.place, ty);
         p = x.end;
-        i = i + 1;
     }
 }

@@ -5,6 +5,8 @@ ghost use Rattle.notation_machine.specs.Lists.{head_at};
 ghost use Rattle.words.specs.Lexed.{Lexed};
 ghost use Rattle.term_parts.specs.Names.{NamesStand, NameSays, HeadSays, SpacedSay, ListedSay, TwoSay, deeper_by, PassedSays, listed_code, NextSays};
 
+use answers::{Reason, Refusal};
+
 const ENDS: u8 = 0;
 
 const ROUND: u8 = 11;
@@ -15,64 +17,49 @@ const COMMA: u8 = 14;
 
 const COLON: u8 = 15;
 
-// A name's place and the offset behind it; or a refusal's number, which is not 0, and its place.
+// A name's place, and the offset behind it.
 #[derive(Clone, Copy)]
 pub struct NameEnd {
-    pub number: u8,
     pub place: usize,
     pub end: usize,
 }
 
-pub fn name_at(text: &[u8], at: usize) -> NameEnd
+pub fn name_at(text: &[u8], at: usize) -> Result<NameEnd, Refusal>
     requires { Lexed text.now at }
     ensures { NameSays text.now at result }
 {
     let w = words::word_at(text, at);
     if w.kind == words::NAME {
-        return NameEnd {
-            number: 0,
+        return Ok(NameEnd {
             place: w.start,
             end: w.end,
-        };
+        });
     }
-    NameEnd {
-        number: 32,
-        place: w.start,
-        end: at,
-    }
+    Err(Reason::OtherWordDue.at(w.start))
 }
 
-// How many names there are, and the offset behind them; or a refusal's number, which is not 0, and its place.
+// How many names there are, and the offset behind them.
 #[derive(Clone, Copy)]
 pub struct NamesEnd {
-    pub number: u8,
     pub count: usize,
     pub end: usize,
 }
 
 // Names up to the colon.
-pub fn count_names(text: &[u8], at: usize) -> NamesEnd
+pub fn count_names(text: &[u8], at: usize) -> Result<NamesEnd, Refusal>
     requires { Lexed text.now at }
     ensures { SpacedSay text.now at result }
 {
-    let mut x = name_at(text, at);
+    let mut p = at;
     let mut count: usize = 0;
-    while x.number == 0 {
-        count = count + 1;
+    loop {
+        let x = name_at(text, p)?;
+        count += 1;
         let c = words::word_at(text, x.end);
         if c.kind == COLON {
-            return NamesEnd {
-                number: 0,
-                count,
-                end: x.end,
-            };
+            return Ok(NamesEnd { count, end: x.end });
         }
-        x = name_at(text, x.end);
-    }
-    NamesEnd {
-        number: x.number,
-        count: 0,
-        end: x.place,
+        p = x.end;
     }
 }
 
@@ -109,56 +96,42 @@ fn behind_list(text: &[u8], at: usize) -> usize
 }
 
 // One of a list: a name, or a list, which is passed over.
-pub fn head_at(text: &[u8], at: usize) -> NameEnd
+pub fn head_at(text: &[u8], at: usize) -> Result<NameEnd, Refusal>
     requires { Lexed text.now at }
     ensures { HeadSays text.now at result }
 {
     let w = words::word_at(text, at);
     if w.kind == words::NAME {
-        return NameEnd {
-            number: 0,
+        return Ok(NameEnd {
             place: w.start,
             end: w.end,
-        };
+        });
     }
     if w.kind == ROUND {
         let end = behind_list(text, w.end);
-        return NameEnd {
-            number: 0,
+        return Ok(NameEnd {
             place: w.start,
             end,
-        };
+        });
     }
-    NameEnd {
-        number: 32,
-        place: w.start,
-        end: at,
-    }
+    Err(Reason::OtherWordDue.at(w.start))
 }
 
 // Names, and lists that stand for one, with commas between them.
-pub fn count_listed(text: &[u8], at: usize) -> NamesEnd
+pub fn count_listed(text: &[u8], at: usize) -> Result<NamesEnd, Refusal>
     requires { Lexed text.now at }
     ensures { ListedSay text.now at result }
 {
-    let mut x = head_at(text, at);
+    let mut p = at;
     let mut count: usize = 0;
-    while x.number == 0 {
-        count = count + 1;
+    loop {
+        let x = head_at(text, p)?;
+        count += 1;
         let c = words::word_at(text, x.end);
         if c.kind != COMMA {
-            return NamesEnd {
-                number: 0,
-                count,
-                end: x.end,
-            };
+            return Ok(NamesEnd { count, end: x.end });
         }
-        x = head_at(text, c.end);
-    }
-    NamesEnd {
-        number: x.number,
-        count: 0,
-        end: x.place,
+        p = c.end;
     }
 }
 
@@ -174,9 +147,9 @@ pub fn two_names(text: &[u8], at: usize) -> TwoNames
     requires { NamesStand head_at behind text.now at 2 }
     ensures { TwoSay text.now at result }
 {
-    let x = head_at(text, at);
+    let x = head_at(text, at).unwrap();
     let c = words::word_at(text, x.end);
-    let y = head_at(text, c.end);
+    let y = head_at(text, c.end).unwrap();
     TwoNames {
         first: x.place,
         second: y.place,
@@ -184,10 +157,9 @@ pub fn two_names(text: &[u8], at: usize) -> TwoNames
     }
 }
 
-// Whether there is a next list; the place of its parenthesis and the offset behind that.
+// The place of the next list's parenthesis, and the offset behind that.
 #[derive(Clone, Copy)]
 pub struct NextList {
-    pub found: bool,
     pub place: usize,
     pub end: usize,
 }
@@ -206,7 +178,7 @@ fn listed(kind: u8) -> bool
 }
 
 // The next list that begins in lists from an offset on, before any word that stands in no list.
-pub fn next_list(text: &[u8], at: usize) -> NextList
+pub fn next_list(text: &[u8], at: usize) -> Option<NextList>
     requires { Lexed text.now at }
     ensures { NextSays text.now at result }
 {
@@ -216,9 +188,11 @@ pub fn next_list(text: &[u8], at: usize) -> NextList
         p = w.end;
         w = words::word_at(text, p);
     }
-    NextList {
-        found: w.kind == ROUND,
+    if w.kind != ROUND {
+        return None;
+    }
+    Some(NextList {
         place: w.start,
         end: w.end,
-    }
+    })
 }

@@ -4,11 +4,11 @@ ghost use Rattle.term_parts.specs.Parts.{CanLook, LookSays, CanLookAt, LookAtSay
 
 use scopes::{entries, frames};
 
-// A variable's number and its type; or none has the name.
+// A variable's number and its type.
 #[derive(Clone, Copy)]
-pub enum Look {
-    Here(u16, u16),
-    Nowhere,
+pub struct Look {
+    pub number: u16,
+    pub ty: u16,
 }
 
 fn narrow(x: usize) -> u16
@@ -19,29 +19,35 @@ fn narrow(x: usize) -> u16
 }
 
 // The nearest variable of the name at a place.
-pub fn variable_at(text: &[u8], work: &[u16], name: usize, frame: usize, top: usize) -> Look
+pub fn variable_at(text: &[u8], work: &[u16], name: usize, frame: usize, top: usize) -> Option<Look>
     requires { CanLook text.now work.now name frame top }
     ensures { LookSays text.now work.now name frame top result }
 {
     let f = frames::frame_at(work, frame);
     let e = entries::last_of(text, work, name, f.variables, top);
     if e <= f.variables {
-        return Look::Nowhere;
+        return None;
     }
     let v = entries::value_of(work, e - 1);
-    Look::Here(narrow(top - e), narrow(v))
+    Some(Look {
+        number: narrow(top - e),
+        ty: narrow(v),
+    })
 }
 
 // The nameless variable of the list whose parenthesis stands at a place.
-pub fn list_at(work: &[u16], place: usize, frame: usize, top: usize) -> Look
+pub fn list_at(work: &[u16], place: usize, frame: usize, top: usize) -> Option<Look>
     requires { CanLookAt work.now frame top }
     ensures { LookAtSays work.now place frame top result }
 {
     let f = frames::frame_at(work, frame);
     let e = entries::last_at(work, place, f.variables, top);
     if e <= f.variables {
-        return Look::Nowhere;
+        return None;
     }
     let v = entries::value_of(work, e - 1);
-    Look::Here(narrow(top - e), narrow(v))
+    Some(Look {
+        number: narrow(top - e),
+        ty: narrow(v),
+    })
 }

@@ -7,6 +7,10 @@ use native.Mathlib.Omega.{arith}
 use lib.Dec.{leb}
 use borrow.Author.Tests.{le-leb}
 use lib.ListN.{length}
+use Rattle.std.specs.Prelude.{Result, Ok, Err}
+use Rattle.answers.specs.declared.Refusal.{Refusal}
+use Rattle.answers.specs.declared.Reason.{Reason}
+use Rattle.answers.specs.Refusals.{said_why, refusal_at}
 use Rattle.calculus.specs.Answer.{Answer, good, refused, numbered, need, ◌>>=◌}
 use Rattle.calculus.specs.Types.{rec_at}
 use Rattle.calculus.specs.Terms.{var}
@@ -25,17 +29,12 @@ use Rattle.made_nodes.specs.Held.{TermHeld, MadeIn, SmallMade, MadeOnly, Workabl
 use Rattle.made_nodes.specs.Forms.{FunctionsSay, FixSays, NamingSays}
 use Rattle.made_nodes.proofs.Terms.{workable_on}
 use Rattle.made_nodes.specs.declared.Sub.{Sub}
-use Rattle.made_nodes.specs.declared.MadeTerm as code
-use Rattle.made_nodes.specs.declared.MadeTerm.TheVariants as made
 use Rattle.scopes.specs.Frames.{HoldsScope}
 use Rattle.walk_levels.specs.declared.Level.{Level}
 use Rattle.term_walk.specs.declared.Walk.{Walk}
 use Rattle.term_walk.specs.declared.Left.{Left}
-use Rattle.term_walk.specs.declared.Step as step
-use Rattle.term_walk.specs.declared.Step.TheVariants as step_is
 use Rattle.term_parts.specs.declared.halves.Half.{Half}
-use Rattle.term_parts.specs.declared.apart.ApartEnd as parted
-use Rattle.term_parts.specs.declared.apart.ApartEnd.TheVariants as apart-end
+use Rattle.term_parts.specs.declared.apart.ApartEnd.{ApartEnd}
 use Rattle.term_parts.specs.Names.{listed_names}
 use Rattle.term_parts.specs.Halves.{InHalves, with_half, CanJoin, PairsSay, ProjectionsSay}
 use Rattle.term_parts.specs.Parts.{NameBound, CanApart, ApartHeld, ApartAnswers, ApartSays}
@@ -188,12 +187,12 @@ module _ (text w : List ℕ) (h : Walk) (l : Level) (x : Sub) (C : CanLeave text
 
 -- ---- the level is done
 
-module _ (text w : List ℕ) (h : Walk) (l : Level) (x : Sub) (C : CanLeave text w h l x) (y : code.MadeTerm) (w' : List ℕ) (r : step.Step) (e : r ≡ done_step h y h.at) where
+module _ (text w : List ℕ) (h : Walk) (l : Level) (x : Sub) (C : CanLeave text w h l x) (y : Result Sub Refusal) (w' : List ℕ) (r : Result Walk Refusal) (e : r ≡ done_step h y h.at) where
   -- where the term that is made is the machine's
   done-by : MadeOnly w w' → (X : Text) (most bottom k : ℕ) (S : Scope) (K : List TermLevel) (m : Made) → h.more ≡ suc k → HereHeld text X most bottom w h S m.state K → (n : ℕ) → TermCame w x (h.waiting + n) m → (a : Answer Made) → MadeIn w' y a → StepAnswers text X most bottom w' r (a >>= λ v. good (term_done (term_here_with k S K) v (words_at text h.at)))
   done-by o X most bottom k S K m c g n t a i =
       let b = leave_room text w h l x C in
-      subst (λ (q : step.Step). StepAnswers text X most bottom w' q (a >>= λ v. good (term_done (term_here_with k S K) v (words_at text h.at)))) (sym e) (
+      subst (λ (q : Result Walk Refusal). StepAnswers text X most bottom w' q (a >>= λ v. good (term_done (term_here_with k S K) v (words_at text h.at)))) (sym e) (
       done_says text X most bottom w' h S K k h.at c C.readable (here-now text X most bottom w w' h S m.state K g (stepped_made h.more h.top h.waiting w w' b.0 b.1 o)) y a i (made-nodes h.waiting w w' y a (omega (arith, t.few, g.scope.walkable.state.nodes)) o i))
 
   done-stepped : MadeOnly w w' → LevelWrites h.more h.top h.waiting w w'
@@ -262,7 +261,7 @@ module _ (text w : List ℕ) (h : Walk) (l : Level) (x : Sub) (C : CanLeave text
 -- ---- atoms
 
 module _ (text w : List ℕ) (h : Walk) (l : Level) (x : Sub) (C : CanLeave text w h l x) where
-  pub definition_done : l.form ≡ 8 → (s : Left) → s ≡ left_by l → (at : ℕ) → at ≡ l.next → (r : step.Step) (w' : List ℕ) → BehindSays w h s x at r w' → LeaveSays text w h l x r w'
+  pub definition_done : l.form ≡ 8 → (s : Left) → s ≡ left_by l → (at : ℕ) → at ≡ l.next → (r : Result Walk Refusal) (w' : List ℕ) → BehindSays w h s x at r w' → LeaveSays text w h l x r w'
   definition_done form s es at ea r w' B₀ = record { stepped = let b = leave_room text w h l x C in B.stepped b.0 b.1; says = λ X most bottom k S K wish m c g held en t rd. by X most bottom k S K m c g wish held en t }
     where
       B : BehindSays w h (left_by l) x l.next r w'
@@ -280,7 +279,7 @@ module _ (text w : List ℕ) (h : Walk) (l : Level) (x : Sub) (C : CanLeave text
           subst (λ (vs : List Word). StepAnswers text X most bottom w' r (behind_atom (term_here_with k S K) q m vs)) (words-lexed text l.next b ∙ sym u) (B.says text X most bottom k S K q m c (λ _. b) g (record { term = t.term; few = omega (arith, t.few) }) s')
 
   -- the tuple is an atom
-  pub tuple-done : l.form ≡ 7 → (v : code-word.Word) → Looks text h.at v → ¬ (v.kind ≡ 14) → (y : code.MadeTerm) (w₁ : List ℕ) → PairsSay w h.waiting l.count x y w₁ → (s : Left) → s ≡ left_by l → (r : step.Step) (w' : List ℕ) → MadeSays w₁ h s y v.end r w' → LeaveSays text w h l x r w'
+  pub tuple-done : l.form ≡ 7 → (v : code-word.Word) → Looks text h.at v → ¬ (v.kind ≡ 14) → (y : Result Sub Refusal) (w₁ : List ℕ) → PairsSay w h.waiting l.count x y w₁ → (s : Left) → s ≡ left_by l → (r : Result Walk Refusal) (w' : List ℕ) → MadeSays w₁ h s y v.end r w' → LeaveSays text w h l x r w'
   tuple-done form v looks no-comma y w₁ P s es r w' M₀ = record { stepped = stepped_then h.more h.top h.waiting w w₁ w' st (M.stepped b.0 b.1); says = λ X most bottom k S K wish m c g held en t rd. by X most bottom k S K m c g wish held en t }
     where
       b : (h.top ≤ most_entries) × (h.waiting ≤ 2048) × (h.more ≤ 80)
@@ -307,15 +306,15 @@ module _ (text w : List ℕ) (h : Walk) (l : Level) (x : Sub) (C : CanLeave text
           subst (λ (vs : List Word). StepAnswers text X most bottom w' r (pairs_of before m >>= λ p. behind_atom (term_here_with k S K) q p vs)) (sym looks.rest) (
           M.says text X most bottom k S K q (pairs_of before m) c looks.readable (here-now text X most bottom w w₁ h S m.state K g st) i (made-nodes h.waiting w w₁ y _ (omega (arith, t.few, H.nodes)) P.only i) (left_stays h.more h.top h.waiting w w₁ st (left_by l) q s')))
 
-  pub tuple_can : l.form ≡ 7 → (y : code.MadeTerm) (w₁ : List ℕ) → PairsSay w h.waiting l.count x y w₁ → (s : Left) → s ≡ left_by l → CanApplyMade w₁ s y
+  pub tuple_can : l.form ≡ 7 → (y : Result Sub Refusal) (w₁ : List ℕ) → PairsSay w h.waiting l.count x y w₁ → (s : Left) → s ≡ left_by l → CanApplyMade w₁ s y
   tuple_can form y w₁ P s es = subst (λ (u : Left). CanApplyMade w₁ u y) (sym es) (by y P.small)
     where
       b : (h.top ≤ most_entries) × (h.waiting ≤ 2048) × (h.more ≤ 80)
       b = leave_room text w h l x C
 
-      by : (y : code.MadeTerm) → SmallMade y → CanApplyMade w₁ (left_by l) y
-      by (made.At z) small = let q = (element_facts text w h l x C form).1.1 in record { workable = workable_on w w₁ (leave_workable text w h l x C) P.only; type = small; p = q.0; left = left_stays h.more h.top h.waiting w w₁ (stepped_made h.more h.top h.waiting w w₁ b.0 b.1 P.only) (left_by l) q.0 q.1 }
-      by (made.Refused n q) small = tt
+      by : (y : Result Sub Refusal) → SmallMade y → CanApplyMade w₁ (left_by l) y
+      by (Ok z) small = let q = (element_facts text w h l x C form).1.1 in record { workable = workable_on w w₁ (leave_workable text w h l x C) P.only; type = small; p = q.0; left = left_stays h.more h.top h.waiting w w₁ (stepped_made h.more h.top h.waiting w w₁ b.0 b.1 P.only) (left_by l) q.0 q.1 }
+      by (Err e) small = tt
 
   pub element_room : l.form ≡ 7 → (i : ℕ) → i ≡ h.waiting + l.count → InHalves w i
   element_room form i ei = (C.here.scope.walkable.room, omega (arith, ei, (element_facts text w h l x C form).1.0))
@@ -323,7 +322,7 @@ module _ (text w : List ℕ) (h : Walk) (l : Level) (x : Sub) (C : CanLeave text
   -- one more element is wanted
   pub element_asks :
       l.form ≡ 7 → (v : code-word.Word) → Looks text h.at v → v.kind ≡ 14 → (i : ℕ) → i ≡ h.waiting + l.count → (w₁ : List ℕ) → w₁ ≡ with_half w i (record { node = x.node; ty = x.ty; deep = x.deep; place = v.start }) → CanAskTerm w₁ h → (lv : Level) (s : Left) → s ≡ left_by l → lv ≡ part_level 7 s (l.count + 1) 0
-      → (r : step.Step) (w' : List ℕ) → Asks w₁ h lv h.frame h.top (i + 1) v.end r w' → LeaveSays text w h l x r w'
+      → (r : Result Walk Refusal) (w' : List ℕ) → Asks w₁ h lv h.frame h.top (i + 1) v.end r w' → LeaveSays text w h l x r w'
   element_asks form v looks is-comma i ei w₁ ew A₁ lv s es el r w' A₀ = record { stepped = stepped_then h.more h.top h.waiting w w₁ w' st (stepped_asks w₁ h lv h.frame h.top (i + 1) v.end r w' A₁ A₀); says = λ X most bottom k S K wish m c g held en t rd. by X most bottom k S K m c g wish held en t }
     where
       b : (h.top ≤ most_entries) × (h.waiting ≤ 2048) × (h.more ≤ 80)
@@ -363,10 +362,10 @@ module _ (text w : List ℕ) (h : Walk) (l : Level) (x : Sub) (C : CanLeave text
 pub join_as : (w : List ℕ) (from' count n : ℕ) (x : Sub) → n ≡ count → CanJoin w from' count x → CanJoin w from' n x
 join_as w from' count n x e J = subst (λ (k : ℕ). CanJoin w from' k x) (sym e) J
 
-pub pairs_as : (w : List ℕ) (from' count n : ℕ) (x : Sub) (y : code.MadeTerm) (w' : List ℕ) → n ≡ count → PairsSay w from' n x y w' → PairsSay w from' count x y w'
+pub pairs_as : (w : List ℕ) (from' count n : ℕ) (x : Sub) (y : Result Sub Refusal) (w' : List ℕ) → n ≡ count → PairsSay w from' n x y w' → PairsSay w from' count x y w'
 pairs_as w from' count n x y w' e J = subst (λ (k : ℕ). PairsSay w from' k x y w') e J
 
-pub projections_as : (w : List ℕ) (from' count n : ℕ) (x : Sub) (y : code.MadeTerm) (w' : List ℕ) → n ≡ count → ProjectionsSay w from' n x y w' → ProjectionsSay w from' count x y w'
+pub projections_as : (w : List ℕ) (from' count n : ℕ) (x : Sub) (y : Result Sub Refusal) (w' : List ℕ) → n ≡ count → ProjectionsSay w from' n x y w' → ProjectionsSay w from' count x y w'
 projections_as w from' count n x y w' e J = subst (λ (k : ℕ). ProjectionsSay w from' k x y w') e J
 
 pub apply_as : (w : List ℕ) (s s' : Left) (x : Sub) → s ≡ s' → CanApply w s' x → CanApply w s x
@@ -381,7 +380,7 @@ count_as a b n e h = subst (λ (k : ℕ). a + (k + k) ≤ most_entries) e h
 pub lexed_as : (text : List ℕ) (a n : ℕ) → a ≡ n → Lexed text n → Lexed text a
 lexed_as text a n e x = subst (Lexed text) (sym e) x
 
-pub under_as : (text w : List ℕ) (n : Walk) (next at : ℕ) (r : step.Step) (w' : List ℕ) (a : ℕ) → a ≡ next → BodySays text w n (under_lists_body text a at) r w' → BodySays text w n (under_lists_body text next at) r w'
+pub under_as : (text w : List ℕ) (n : Walk) (next at : ℕ) (r : Result Walk Refusal) (w' : List ℕ) (a : ℕ) → a ≡ next → BodySays text w n (under_lists_body text a at) r w' → BodySays text w n (under_lists_body text next at) r w'
 under_as text w n next at r w' a e E = subst (λ (k : ℕ). BodySays text w n (under_lists_body text k at) r w') e E
 
 pub half_length : (w : List ℕ) (i : ℕ) (x : Half) (w' : List ℕ) → w' ≡ with_half w i x → InHalves w i → length w' ≡ length w
@@ -391,7 +390,7 @@ module _ (text w : List ℕ) (h : Walk) (l : Level) (x : Sub) where
   pub apart_as : (a n : ℕ) → a ≡ l.next → n ≡ l.count → CanApart text w l.next l.count h.top h.waiting x → CanApart text w a n h.top h.waiting x
   apart_as a n ea en P = subst (λ (k : ℕ). CanApart text w a k h.top h.waiting x) (sym en) (subst (λ (k : ℕ). CanApart text w k l.count h.top h.waiting x) (sym ea) P)
 
-  pub aparted_as : (a n : ℕ) (y : parted.ApartEnd) (w' : List ℕ) → a ≡ l.next → n ≡ l.count → ApartSays text w a n h.top h.waiting x y w' → ApartSays text w l.next l.count h.top h.waiting x y w'
+  pub aparted_as : (a n : ℕ) (y : Result ApartEnd Refusal) (w' : List ℕ) → a ≡ l.next → n ≡ l.count → ApartSays text w a n h.top h.waiting x y w' → ApartSays text w l.next l.count h.top h.waiting x y w'
   aparted_as a n y w' ea en P = subst (λ (k : ℕ). ApartSays text w l.next k h.top h.waiting x y w') en (subst (λ (k : ℕ). ApartSays text w k n h.top h.waiting x y w') ea P)
 
 -- ---- names for terms
@@ -407,10 +406,10 @@ apart-longer Γ (x ∷ y ∷ z ∷ zs) v ps =
     on_any (λ (a : Apart). length Γ ≤ length a.variables) (node y.place (var 0) h.right 0 [] v.state) _ λ r. on_map (λ (a : Apart). length Δ ≤ length a.variables) (λ (a : Apart). length Γ ≤ length a.variables) (apart_from Δ (y ∷ z ∷ zs) r (record { place = x.place; pair = v } ∷ ps)) (apart-longer Δ (y ∷ z ∷ zs) r (record { place = x.place; pair = v } ∷ ps)) λ a q. omega arith
 
 module _ (text w : List ℕ) (h : Walk) (l : Level) (x : Sub) (C : CanLeave text w h l x) where
-  pub value-full : l.form ≡ 3 → leb (h.top + 1) most_entries ≡ false → (n : ℕ) → n ≡ l.place → LeaveSays text w h l x (step_is.Refused 34 n) w
+  pub value-full : l.form ≡ 3 → leb (h.top + 1) most_entries ≡ false → (n : ℕ) → n ≡ l.place → LeaveSays text w h l x (Err (refusal_at Reason.TextLimit n)) w
   value-full form full n en₀ = record { stepped = stepped_none h.more h.top h.waiting w; says = λ X most bottom k S K wish m c g held en t rd. by X most bottom k S K m c g wish held en t }
     where
-      by : (X : Text) (most bottom k : ℕ) (S : Scope) (K : List TermLevel) (m : Made) → h.more ≡ suc k → HereHeld text X most bottom w h S m.state K → (wish : TermWish) → WishHeld text w h.top h.waiting l wish → h.top + entries_of wish ≤ most_entries → TermCame w x (h.waiting + halves_for wish) m → StepAnswers text X most bottom w (step_is.Refused 34 n) (term_left X (bodies_in text w X) (term_here_with k S K) wish m (words_at text h.at))
+      by : (X : Text) (most bottom k : ℕ) (S : Scope) (K : List TermLevel) (m : Made) → h.more ≡ suc k → HereHeld text X most bottom w h S m.state K → (wish : TermWish) → WishHeld text w h.top h.waiting l wish → h.top + entries_of wish ≤ most_entries → TermCame w x (h.waiting + halves_for wish) m → StepAnswers text X most bottom w (Err (refusal_at Reason.TextLimit n)) (term_left X (bodies_in text w X) (term_here_with k S K) wish m (words_at text h.at))
       by X most bottom k S K m c g (of_function xs θ₀) hh en t = absurd (omega (arith, hh.0, form))
       by X most bottom k S K m c g (of_fix y θ₀) hh en t = absurd (omega (arith, hh.0, form))
       by X most bottom k S K m c g (value_of_names p xs us) hh en t = absurd (omega (arith, hh.0, form))
@@ -419,12 +418,12 @@ module _ (text w : List ℕ) (h : Walk) (l : Level) (x : Sub) (C : CanLeave text
       by X most bottom k S K m c g (element q before) hh en t = absurd (omega (arith, hh.0, form))
       by X most bottom k S K m c g (of_definition q us) hh en t = absurd (omega (arith, hh.0, form))
       by X most bottom k S K m c g (value_of_name p y) (f, p', n', e', b') en t =
-          subst (λ (bb : Bool). StepAnswers text X most bottom w (step_is.Refused 34 n) (need bb 34 p >>= λ _. good (ask_term (term_here_with k S K) (under_name y m) (with_variables S (bind y m.type S.variables)) m.state (behind (words_at text h.at))))) (sym (ap (λ (z : ℕ). leb (z + 1) most_entries) g.scope.walkable.scope.entries ∙ full)) (ap (numbered 34) (sym (en₀ ∙ p')))
+          subst (λ (bb : Bool). StepAnswers text X most bottom w (Err (refusal_at Reason.TextLimit n)) (need bb 34 p >>= λ _. good (ask_term (term_here_with k S K) (under_name y m) (with_variables S (bind y m.type S.variables)) m.state (behind (words_at text h.at))))) (sym (ap (λ (z : ℕ). leb (z + 1) most_entries) g.scope.walkable.scope.entries ∙ full)) (ap (numbered 34) (sym (en₀ ∙ p')))
 
-  pub values_full : l.form ≡ 4 → (j : ℕ) → j ≡ l.count → leb (h.top + (j + j)) most_entries ≡ false → (n : ℕ) → n ≡ l.place → LeaveSays text w h l x (step_is.Refused 34 n) w
+  pub values_full : l.form ≡ 4 → (j : ℕ) → j ≡ l.count → leb (h.top + (j + j)) most_entries ≡ false → (n : ℕ) → n ≡ l.place → LeaveSays text w h l x (Err (refusal_at Reason.TextLimit n)) w
   values_full form j ej full n en₀ = record { stepped = stepped_none h.more h.top h.waiting w; says = λ X most bottom k S K wish m c g held en t rd. by X most bottom k S K m c g wish held en t }
     where
-      by : (X : Text) (most bottom k : ℕ) (S : Scope) (K : List TermLevel) (m : Made) → h.more ≡ suc k → HereHeld text X most bottom w h S m.state K → (wish : TermWish) → WishHeld text w h.top h.waiting l wish → h.top + entries_of wish ≤ most_entries → TermCame w x (h.waiting + halves_for wish) m → StepAnswers text X most bottom w (step_is.Refused 34 n) (term_left X (bodies_in text w X) (term_here_with k S K) wish m (words_at text h.at))
+      by : (X : Text) (most bottom k : ℕ) (S : Scope) (K : List TermLevel) (m : Made) → h.more ≡ suc k → HereHeld text X most bottom w h S m.state K → (wish : TermWish) → WishHeld text w h.top h.waiting l wish → h.top + entries_of wish ≤ most_entries → TermCame w x (h.waiting + halves_for wish) m → StepAnswers text X most bottom w (Err (refusal_at Reason.TextLimit n)) (term_left X (bodies_in text w X) (term_here_with k S K) wish m (words_at text h.at))
       by X most bottom k S K m c g (of_function xs θ₀) hh en t = absurd (omega (arith, hh.0, form))
       by X most bottom k S K m c g (of_fix y θ₀) hh en t = absurd (omega (arith, hh.0, form))
       by X most bottom k S K m c g (value_of_name p y) hh en t = absurd (omega (arith, hh.0, form))
@@ -434,12 +433,12 @@ module _ (text w : List ℕ) (h : Walk) (l : Level) (x : Sub) (C : CanLeave text
       by X most bottom k S K m c g (of_definition q us) hh en t = absurd (omega (arith, hh.0, form))
       by X most bottom k S K m c g (value_of_names p xs us) (f, p', e', st', u') en t =
           let j₁ : length xs ≡ j = ap length e' ∙ names-length head_at behind l.count (from text l.next) ∙ sym ej in
-          subst (λ (bb : Bool). StepAnswers text X most bottom w (step_is.Refused 34 n) (need bb 34 p >>= λ _. apart_from S.variables xs m [] >>= λ a. under_lists k (with_variables S a.variables) a.state us (words_at text h.at) (record { wish = under_names a.taken; scope = S } ∷ K))) (sym (ap (λ (z : ℕ). leb (z + (length xs + length xs)) most_entries) g.scope.walkable.scope.entries ∙ ap (λ (z : ℕ). leb (h.top + (z + z)) most_entries) j₁ ∙ full)) (ap (numbered 34) (sym (en₀ ∙ p')))
+          subst (λ (bb : Bool). StepAnswers text X most bottom w (Err (refusal_at Reason.TextLimit n)) (need bb 34 p >>= λ _. apart_from S.variables xs m [] >>= λ a. under_lists k (with_variables S a.variables) a.state us (words_at text h.at) (record { wish = under_names a.taken; scope = S } ∷ K))) (sym (ap (λ (z : ℕ). leb (z + (length xs + length xs)) most_entries) g.scope.walkable.scope.entries ∙ ap (λ (z : ℕ). leb (h.top + (z + z)) most_entries) j₁ ∙ full)) (ap (numbered 34) (sym (en₀ ∙ p')))
 
   abbrev name_level : Level
   name_level = record { form = 5; flag = 0; place = l.next; count = 0; node = x.node; ty = x.ty; deep = x.deep; next = 0 }
 
-  pub value_bound : l.form ≡ 3 → leb (h.top + 1) most_entries ≡ true → h.top + 1 ≤ most_entries → (v : code-word.Word) → Looks text h.at v → (nm : ℕ) → nm ≡ l.next → (w₁ : List ℕ) → NameBound w h.top nm x.ty w₁ → CanAskTerm w₁ h → (r : step.Step) (w' : List ℕ) → Asks w₁ h name_level h.frame (h.top + 1) h.waiting v.end r w' → LeaveSays text w h l x r w'
+  pub value_bound : l.form ≡ 3 → leb (h.top + 1) most_entries ≡ true → h.top + 1 ≤ most_entries → (v : code-word.Word) → Looks text h.at v → (nm : ℕ) → nm ≡ l.next → (w₁ : List ℕ) → NameBound w h.top nm x.ty w₁ → CanAskTerm w₁ h → (r : Result Walk Refusal) (w' : List ℕ) → Asks w₁ h name_level h.frame (h.top + 1) h.waiting v.end r w' → LeaveSays text w h l x r w'
   value_bound form there few v looks nm enm w₁ B₀ A₁ r w' A = record { stepped = stepped_then h.more h.top h.waiting w w₁ w' st (stepped_asks w₁ h name_level h.frame (h.top + 1) h.waiting v.end r w' A₁ A); says = λ X most bottom k S K wish m c g held en t rd. by X most bottom k S K m c g wish held en t }
     where
       B : NameBound w h.top l.next x.ty w₁
@@ -473,14 +472,14 @@ module _ (text w : List ℕ) (h : Walk) (l : Level) (x : Sub) (C : CanLeave text
   abbrev names_level : ℕ → Level
   names_level n = record { form = 6; flag = 0; place = 0; count = n; node = 0; ty = 0; deep = 0; next = 0 }
 
-  apart-refuses : (w₁ : List ℕ) (S : Scope) (n q : ℕ) (m : Answer Apart) → ApartAnswers text w₁ h.frame h.waiting S (apart-end.Refused n q) m → m ≡ refused (numbered n q)
-  apart-refuses w₁ S n q (good a) i = absurd i
-  apart-refuses w₁ S n q (refused why) i = ap refused i
+  apart-refuses : (w₁ : List ℕ) (S : Scope) (z : Refusal) (m : Answer Apart) → ApartAnswers text w₁ h.frame h.waiting S (Err z) m → m ≡ refused (said_why z)
+  apart-refuses w₁ S z (good a) i = absurd i
+  apart-refuses w₁ S z (refused why) i = ap refused i
 
-  pub values_refused : l.form ≡ 4 → h.top + (l.count + l.count) ≤ most_entries → (y : parted.ApartEnd) (n q : ℕ) (w₁ : List ℕ) → y ≡ apart-end.Refused n q → ApartSays text w l.next l.count h.top h.waiting x y w₁ → LeaveSays text w h l x (step_is.Refused n q) w₁
-  values_refused form few y n q w₁ ey P = record { stepped = stepped_parts h.more h.top h.waiting w w₁ P.only; says = λ X most bottom k S K wish m c g held en t rd. by X most bottom k S K m c g wish held en t }
+  pub values_refused : l.form ≡ 4 → h.top + (l.count + l.count) ≤ most_entries → (y : Result ApartEnd Refusal) (why : Refusal) (w₁ : List ℕ) → y ≡ Err why → ApartSays text w l.next l.count h.top h.waiting x y w₁ → LeaveSays text w h l x (Err why) w₁
+  values_refused form few y why w₁ ey P = record { stepped = stepped_parts h.more h.top h.waiting w w₁ P.only; says = λ X most bottom k S K wish m c g held en t rd. by X most bottom k S K m c g wish held en t }
     where
-      by : (X : Text) (most bottom k : ℕ) (S : Scope) (K : List TermLevel) (m : Made) → h.more ≡ suc k → HereHeld text X most bottom w h S m.state K → (wish : TermWish) → WishHeld text w h.top h.waiting l wish → h.top + entries_of wish ≤ most_entries → TermCame w x (h.waiting + halves_for wish) m → StepAnswers text X most bottom w₁ (step_is.Refused n q) (term_left X (bodies_in text w X) (term_here_with k S K) wish m (words_at text h.at))
+      by : (X : Text) (most bottom k : ℕ) (S : Scope) (K : List TermLevel) (m : Made) → h.more ≡ suc k → HereHeld text X most bottom w h S m.state K → (wish : TermWish) → WishHeld text w h.top h.waiting l wish → h.top + entries_of wish ≤ most_entries → TermCame w x (h.waiting + halves_for wish) m → StepAnswers text X most bottom w₁ (Err why) (term_left X (bodies_in text w X) (term_here_with k S K) wish m (words_at text h.at))
       by X most bottom k S K m c g (of_function xs θ₀) hh en t = absurd (omega (arith, hh.0, form))
       by X most bottom k S K m c g (of_fix y θ₀) hh en t = absurd (omega (arith, hh.0, form))
       by X most bottom k S K m c g (value_of_name p y) hh en t = absurd (omega (arith, hh.0, form))
@@ -492,11 +491,11 @@ module _ (text w : List ℕ) (h : Walk) (l : Level) (x : Sub) (C : CanLeave text
           let j₁ : length xs ≡ l.count = ap length e' ∙ names-length head_at behind l.count (from text l.next) in
           let there : leb (entries S + (length xs + length xs)) most_entries ≡ true = ap (λ (z : ℕ). leb (z + (length xs + length xs)) most_entries) g.scope.walkable.scope.entries ∙ ap (λ (z : ℕ). leb (h.top + (z + z)) most_entries) j₁ ∙ le-leb _ _ few in
           let i = P.says h.frame S m g.scope.walkable.level g.scope.walkable.scope g.scope.walkable.state t.term in
-          subst (λ (bb : Bool). StepAnswers text X most bottom w₁ (step_is.Refused n q) (need bb 34 p >>= λ _. apart_from S.variables xs m [] >>= λ a. under_lists k (with_variables S a.variables) a.state us (words_at text h.at) (record { wish = under_names a.taken; scope = S } ∷ K))) (sym there) (
-          subst (λ (zs : List Bound). StepAnswers text X most bottom w₁ (step_is.Refused n q) (apart_from S.variables zs m [] >>= λ a. under_lists k (with_variables S a.variables) a.state us (words_at text h.at) (record { wish = under_names a.taken; scope = S } ∷ K))) (sym e') (
-          rw (apart-refuses w₁ S n q (apart_from S.variables (listed_names text l.next l.count) m []) (subst (λ (z : parted.ApartEnd). ApartAnswers text w₁ h.frame h.waiting S z (apart_from S.variables (listed_names text l.next l.count) m [])) ey i)) refl))
+          subst (λ (bb : Bool). StepAnswers text X most bottom w₁ (Err why) (need bb 34 p >>= λ _. apart_from S.variables xs m [] >>= λ a. under_lists k (with_variables S a.variables) a.state us (words_at text h.at) (record { wish = under_names a.taken; scope = S } ∷ K))) (sym there) (
+          subst (λ (zs : List Bound). StepAnswers text X most bottom w₁ (Err why) (apart_from S.variables zs m [] >>= λ a. under_lists k (with_variables S a.variables) a.state us (words_at text h.at) (record { wish = under_names a.taken; scope = S } ∷ K))) (sym e') (
+          rw (apart-refuses w₁ S why (apart_from S.variables (listed_names text l.next l.count) m []) (subst (λ (z : Result ApartEnd Refusal). ApartAnswers text w₁ h.frame h.waiting S z (apart_from S.variables (listed_names text l.next l.count) m [])) ey i)) refl))
 
-  module _ (form : l.form ≡ 4) (few : h.top + (l.count + l.count) ≤ most_entries) (y : parted.ApartEnd) (top waiting : ℕ) (w₁ : List ℕ) (ey : y ≡ apart-end.At top waiting) (P : ApartSays text w l.next l.count h.top h.waiting x y w₁) (A₁ : CanAskTerm w₁ h) (n : Walk) (w₂ : List ℕ) (B : Below w₁ h (names_level (waiting - h.waiting)) h.frame top waiting h.at n w₂) where
+  module _ (form : l.form ≡ 4) (few : h.top + (l.count + l.count) ≤ most_entries) (y : Result ApartEnd Refusal) (top waiting : ℕ) (w₁ : List ℕ) (ey : y ≡ Ok (record { top = top; waiting = waiting })) (P : ApartSays text w l.next l.count h.top h.waiting x y w₁) (A₁ : CanAskTerm w₁ h) (n : Walk) (w₂ : List ℕ) (B : Below w₁ h (names_level (waiting - h.waiting)) h.frame top waiting h.at n w₂) where
     apart-stepped : LevelWrites h.more h.top h.waiting w w₁
     apart-stepped = stepped_parts h.more h.top h.waiting w w₁ P.only
 
@@ -509,16 +508,16 @@ module _ (text w : List ℕ) (h : Walk) (l : Level) (x : Sub) (C : CanLeave text
     apart_below X most bottom k S K m c g a i o =
         let g₁ = here_stays text X most bottom w w₁ h S m.state K g apart-stepped a.state i.state in
         let Q = g₁.scope.walkable in
-        let held = asked text X most bottom w₁ h S a.state K k c g₁ (names_level (waiting - h.waiting)) (under_names a.taken) h.frame top waiting h.at (with_variables S a.variables) (refl, omega (arith, i.counted), i.taken) (record { walkable = record { short = Q.short; room = Q.room; level = Q.level; clauses = Q.clauses; state = Q.state; scope = i.scope; seen = Q.seen; types = Q.types; variables = i.typed Q.variables }; above = omega (arith, g.scope.above, c); variables = g₁.scope.variables }) (omega (arith, o, i.scope.entries, g.scope.walkable.scope.entries)) (omega (arith, i.counted)) (omega (arith, i.fewer, i.state.nodes)) C.readable (step_is.Going n) w₂ (asks-below w₁ h (names_level (waiting - h.waiting)) h.frame top waiting h.at n w₂ B) in
+        let held = asked text X most bottom w₁ h S a.state K k c g₁ (names_level (waiting - h.waiting)) (under_names a.taken) h.frame top waiting h.at (with_variables S a.variables) (refl, omega (arith, i.counted), i.taken) (record { walkable = record { short = Q.short; room = Q.room; level = Q.level; clauses = Q.clauses; state = Q.state; scope = i.scope; seen = Q.seen; types = Q.types; variables = i.typed Q.variables }; above = omega (arith, g.scope.above, c); variables = g₁.scope.variables }) (omega (arith, o, i.scope.entries, g.scope.walkable.scope.entries)) (omega (arith, i.counted)) (omega (arith, i.fewer, i.state.nodes)) C.readable (Ok n) w₂ (asks-below w₁ h (names_level (waiting - h.waiting)) h.frame top waiting h.at n w₂ B) in
         (held.1, held.3)
 
-    apart-answers : (S : Scope) (m : Made) → HoldsScope text w h.frame h.top S → HoldsState w m.state → TermHeld w x m → h.frame < 82 → ApartAnswers text w₁ h.frame h.waiting S (apart-end.At top waiting) (apart_from S.variables (listed_names text l.next l.count) m [])
-    apart-answers S m hs H t level = subst (λ (z : parted.ApartEnd). ApartAnswers text w₁ h.frame h.waiting S z (apart_from S.variables (listed_names text l.next l.count) m [])) ey (P.says h.frame S m level hs H t)
+    apart-answers : (S : Scope) (m : Made) → HoldsScope text w h.frame h.top S → HoldsState w m.state → TermHeld w x m → h.frame < 82 → ApartAnswers text w₁ h.frame h.waiting S (Ok (record { top = top; waiting = waiting })) (apart_from S.variables (listed_names text l.next l.count) m [])
+    apart-answers S m hs H t level = subst (λ (z : Result ApartEnd Refusal). ApartAnswers text w₁ h.frame h.waiting S z (apart_from S.variables (listed_names text l.next l.count) m [])) ey (P.says h.frame S m level hs H t)
 
     pub values-can : CanBody text w₂ n
     values-can = by (apart_from C.S.variables (listed_names text l.next l.count) C.m []) (apart-answers C.S C.m C.here.scope.walkable.scope C.here.scope.walkable.state C.came.term C.here.scope.walkable.level) (apart-longer C.S.variables (listed_names text l.next l.count) C.m [])
       where
-        by : (a : Answer Apart) → ApartAnswers text w₁ h.frame h.waiting C.S (apart-end.At top waiting) a → On (λ (z : Apart). length C.S.variables ≤ length z.variables) a → CanBody text w₂ n
+        by : (a : Answer Apart) → ApartAnswers text w₁ h.frame h.waiting C.S (Ok (record { top = top; waiting = waiting })) a → On (λ (z : Apart). length C.S.variables ≤ length z.variables) a → CanBody text w₂ n
         by (refused why) i o = absurd i
         by (good a) i o = record { X = C.X; most = C.most; bottom = C.bottom; S = with_variables C.S a.variables; σ = a.state; K = underLevel C.S a ∷ C.K; here = (apart_below C.X C.most C.bottom C.k C.S C.K C.m C.is C.here a i o).1 }
 
@@ -526,20 +525,20 @@ module _ (text w : List ℕ) (h : Walk) (l : Level) (x : Sub) (C : CanLeave text
     values_above : (h.top ≤ top) × (h.waiting ≤ waiting)
     values_above = by (apart_from C.S.variables (listed_names text l.next l.count) C.m []) (apart-answers C.S C.m C.here.scope.walkable.scope C.here.scope.walkable.state C.came.term C.here.scope.walkable.level) (apart-longer C.S.variables (listed_names text l.next l.count) C.m [])
       where
-        by : (a : Answer Apart) → ApartAnswers text w₁ h.frame h.waiting C.S (apart-end.At top waiting) a → On (λ (z : Apart). length C.S.variables ≤ length z.variables) a → (h.top ≤ top) × (h.waiting ≤ waiting)
+        by : (a : Answer Apart) → ApartAnswers text w₁ h.frame h.waiting C.S (Ok (record { top = top; waiting = waiting })) a → On (λ (z : Apart). length C.S.variables ≤ length z.variables) a → (h.top ≤ top) × (h.waiting ≤ waiting)
         by (refused why) i o = absurd i
         by (good a) i o = (omega (arith, o, i.scope.entries, C.here.scope.walkable.scope.entries), omega (arith, i.counted))
 
-    pub values-taken : (r : step.Step) (w' : List ℕ) → BodySays text w₂ n (under_lists_body text l.next h.at) r w' → LeaveSays text w h l x r w'
+    pub values-taken : (r : Result Walk Refusal) (w' : List ℕ) → BodySays text w₂ n (under_lists_body text l.next h.at) r w' → LeaveSays text w h l x r w'
     values-taken r w' E = record {
       stepped = stepped_then h.more h.top h.waiting w w₂ w' below-stepped (stepped_less n.more h.more n.top h.top n.waiting h.waiting w₂ w' (omega (arith, ap (λ (m : Walk). m.more) B.state)) (omega (arith, values_above.0, ap (λ (m : Walk). m.top) B.state)) (omega (arith, values_above.1, ap (λ (m : Walk). m.waiting) B.state)) E.stepped);
       says = λ X most bottom k S K wish m c g held en t rd. by X most bottom k S K m c g wish held en t;
     }
       where
         below-stepped : LevelWrites h.more h.top h.waiting w w₂
-        below-stepped = stepped_then h.more h.top h.waiting w w₁ w₂ apart-stepped (stepped_asks w₁ h (names_level (waiting - h.waiting)) h.frame top waiting h.at (step_is.Going n) w₂ A₁ (asks-below w₁ h (names_level (waiting - h.waiting)) h.frame top waiting h.at n w₂ B))
+        below-stepped = stepped_then h.more h.top h.waiting w w₁ w₂ apart-stepped (stepped_asks w₁ h (names_level (waiting - h.waiting)) h.frame top waiting h.at (Ok n) w₂ A₁ (asks-below w₁ h (names_level (waiting - h.waiting)) h.frame top waiting h.at n w₂ B))
 
-        taken : (X : Text) (most bottom k : ℕ) (S : Scope) (K : List TermLevel) (m : Made) → h.more ≡ suc k → HereHeld text X most bottom w h S m.state K → (a : Answer Apart) → ApartAnswers text w₁ h.frame h.waiting S (apart-end.At top waiting) a → On (λ (z : Apart). length S.variables ≤ length z.variables) a → StepAnswers text X most bottom w' r (a >>= λ z. under_lists k (with_variables S z.variables) z.state (from text l.next) (words_at text h.at) (underLevel S z ∷ K))
+        taken : (X : Text) (most bottom k : ℕ) (S : Scope) (K : List TermLevel) (m : Made) → h.more ≡ suc k → HereHeld text X most bottom w h S m.state K → (a : Answer Apart) → ApartAnswers text w₁ h.frame h.waiting S (Ok (record { top = top; waiting = waiting })) a → On (λ (z : Apart). length S.variables ≤ length z.variables) a → StepAnswers text X most bottom w' r (a >>= λ z. under_lists k (with_variables S z.variables) z.state (from text l.next) (words_at text h.at) (underLevel S z ∷ K))
         taken X most bottom k S K m c g (refused why) i o = absurd i
         taken X most bottom k S K m c g (good a) i o =
             let b = apart_below X most bottom k S K m c g a i o in
@@ -563,9 +562,9 @@ module _ (text w : List ℕ) (h : Walk) (l : Level) (x : Sub) (C : CanLeave text
             taken X most bottom k S K m c g (apart_from S.variables (listed_names text l.next l.count) m []) (apart-answers S m g.scope.walkable.scope g.scope.walkable.state t.term g.scope.walkable.level) (apart-longer S.variables (listed_names text l.next l.count) m []))))
 
   -- how many terms there are now
-  pub values_most : l.form ≡ 4 → h.top + (l.count + l.count) ≤ most_entries → (y : parted.ApartEnd) (top waiting : ℕ) (w₁ : List ℕ) → y ≡ apart-end.At top waiting → ApartSays text w l.next l.count h.top h.waiting x y w₁ → (h.waiting ≤ waiting) × (waiting < 65536)
-  values_most form few y top waiting w₁ ey P = by (apart_from C.S.variables (listed_names text l.next l.count) C.m []) (subst (λ (z : parted.ApartEnd). ApartAnswers text w₁ h.frame h.waiting C.S z (apart_from C.S.variables (listed_names text l.next l.count) C.m [])) ey (P.says h.frame C.S C.m C.here.scope.walkable.level C.here.scope.walkable.scope C.here.scope.walkable.state C.came.term))
+  pub values_most : l.form ≡ 4 → h.top + (l.count + l.count) ≤ most_entries → (y : Result ApartEnd Refusal) (top waiting : ℕ) (w₁ : List ℕ) → y ≡ Ok (record { top = top; waiting = waiting }) → ApartSays text w l.next l.count h.top h.waiting x y w₁ → (h.waiting ≤ waiting) × (waiting < 65536)
+  values_most form few y top waiting w₁ ey P = by (apart_from C.S.variables (listed_names text l.next l.count) C.m []) (subst (λ (z : Result ApartEnd Refusal). ApartAnswers text w₁ h.frame h.waiting C.S z (apart_from C.S.variables (listed_names text l.next l.count) C.m [])) ey (P.says h.frame C.S C.m C.here.scope.walkable.level C.here.scope.walkable.scope C.here.scope.walkable.state C.came.term))
     where
-      by : (a : Answer Apart) → ApartAnswers text w₁ h.frame h.waiting C.S (apart-end.At top waiting) a → (h.waiting ≤ waiting) × (waiting < 65536)
+      by : (a : Answer Apart) → ApartAnswers text w₁ h.frame h.waiting C.S (Ok (record { top = top; waiting = waiting })) a → (h.waiting ≤ waiting) × (waiting < 65536)
       by (refused why) i = absurd i
       by (good a) i = (omega (arith, i.counted), omega (arith, i.fewer, i.state.nodes, i.state.few))

@@ -1,10 +1,15 @@
 -- A list of names in the body that the walk is at: one law for each way. Assumes nothing.
 use Prim.Native.Nat.{ℕ, zero, suc, ◌-◌, ◌≤◌, ◌<◌}
 use mathlib.Core.Path.{◌≡◌, refl, sym, ap, subst, ◌∙◌}
-use mathlib.Core.Bool.{Bool, true, false, cond}
+use mathlib.Core.Bool.{Bool, cond}
 use mathlib.Core.List.{List, [], ◌∷◌}
 use native.Mathlib.Omega.{arith}
 use lib.ListN.{length, get_or}
+use Rattle.std.specs.Prelude.{Option, Some, None, Result, Ok, Err}
+use Rattle.answers.specs.declared.Refusal.{Refusal}
+use Rattle.answers.specs.declared.Reason.{Reason}
+use Rattle.answers.specs.Refusals.{said_why, refusal_at}
+use Rattle.made_nodes.specs.declared.Sub.{Sub}
 use Rattle.calculus.specs.Answer.{Answer, good, refused, refuse, ◌>>=◌}
 use Rattle.notation_calculus.specs.Words.{endRound, Sign, sign_code, Word}
 use Rattle.notation_calculus.specs.Trees.{Bound, Text}
@@ -19,22 +24,17 @@ use Rattle.words.proofs.LexLaws.{round_byte}
 use Rattle.words.proofs.PlaceLaws.{name_round}
 use Rattle.grammar.specs.Ends.{Ends}
 use Rattle.grammar.specs.Skips.{expect_code}
-use Rattle.grammar.specs.declared.steps.End.{End}
 use Rattle.grammar.proofs.EndLaws.{expect-code}
 use Rattle.making_memory.specs.Map.{type_count_at, making_size}
 use Rattle.made_nodes.specs.Forms.{VariableSays}
-use Rattle.made_nodes.specs.declared.MadeTerm as code
 use Rattle.walk_levels.specs.declared.Level.{Level}
 use Rattle.term_parts.specs.declared.names.NamesEnd.{NamesEnd}
 use Rattle.term_parts.specs.declared.names.NextList.{NextList}
-use Rattle.term_parts.specs.declared.variables.Look as looked
-use Rattle.term_parts.specs.declared.variables.Look.TheVariants as look
-use Rattle.term_parts.specs.Names.{listed_names, NamesStand, ListedSay, NextSays}
+use Rattle.term_parts.specs.declared.variables.Look.{Look}
+use Rattle.term_parts.specs.Names.{listed_names, NamesStand, ListedSay, NextRead, NextSays}
 use Rattle.term_parts.specs.Parts.{CanLookAt, LookAtSays}
 use Rattle.term_parts.proofs.LookFor.{looked_here, looked_nowhere, looked_typed}
 use Rattle.term_walk.specs.declared.Walk.{Walk}
-use Rattle.term_walk.specs.declared.Step as step
-use Rattle.term_walk.specs.declared.Step.TheVariants as step_is
 use Rattle.term_walk.specs.Looks.{words_at, ReadableFrom, Looks}
 use Rattle.term_walk.specs.Holding.{HereHeld}
 use Rattle.term_walk.specs.Steps.{walk_at, done_step, CanAskTerm, Below, Asks, StepAnswers, EnterSays, CanBound, CanBody, BodySays, ListStands, Opens, closed_by, list_made_entry, list_in_body, under_lists_body}
@@ -63,11 +63,11 @@ module _ (s : Sign) (ws : List Word) (F : List Word → Answer Terming) where
       by (good us) = expect-code s us
       by (refused why) = refl
 
-  pub closed_good : (text : List ℕ) (b : ℕ) (r : End) → Ends text b (closed_by (sign_code s) ws) r → r.number ≡ 0 → (expect endRound ws >>= λ us. expect s us >>= F) ≡ F (from text r.at)
-  closed_good text b r E z = closed-code ∙ ap (λ (m : Answer (List Word)). m >>= F) (E.reaches z).is
+  pub closed_good : (text : List ℕ) (b q : ℕ) → Ends text b (closed_by (sign_code s) ws) (Ok q) → (expect endRound ws >>= λ us. expect s us >>= F) ≡ F (from text q)
+  closed_good text b q E = closed-code ∙ ap (λ (m : Answer (List Word)). m >>= F) E.is
 
-  pub closed_bad : (text : List ℕ) (b : ℕ) (r : End) → Ends text b (closed_by (sign_code s) ws) r → ¬ (r.number ≡ 0) → (expect endRound ws >>= λ us. expect s us >>= F) ≡ refuse r.number r.at
-  closed_bad text b r E z = closed-code ∙ ap (λ (m : Answer (List Word)). m >>= F) (E.refuses z)
+  pub closed_bad : (text : List ℕ) (b : ℕ) (z : Refusal) → Ends text b (closed_by (sign_code s) ws) (Err z) → (expect endRound ws >>= λ us. expect s us >>= F) ≡ refused (said_why z)
+  closed_bad text b z E = closed-code ∙ ap (λ (m : Answer (List Word)). m >>= F) E
 
 -- ---- the variable of a list is made
 
@@ -75,10 +75,10 @@ module _ (text w : List ℕ) (h : Walk) (round' from' count i ty at : ℕ) where
   abbrev xs : List Bound
   xs = listed_names text from' count
 
-  pub made_none : h.more ≡ 1 → EnterSays text w h (list_made_entry text round' from' count i ty at) (step_is.Refused 34 round') w
+  pub made_none : h.more ≡ 1 → EnterSays text w h (list_made_entry text round' from' count i ty at) (Err (refusal_at Reason.TextLimit round')) w
   made_none e = record { stepped = stepped_none h.more h.top h.waiting w; says = λ X most bottom k S σ K c g. by X most bottom k S σ K (omega arith) }
     where
-      by : (X : Text) (most bottom k : ℕ) (S : Scope) (σ : State) (K : List TermLevel) → k ≡ 0 → StepAnswers text X most bottom w (step_is.Refused 34 round') (list_made k S σ round' xs (from text from') i ty (words_at text at) K)
+      by : (X : Text) (most bottom k : ℕ) (S : Scope) (σ : State) (K : List TermLevel) → k ≡ 0 → StepAnswers text X most bottom w (Err (refusal_at Reason.TextLimit round')) (list_made k S σ round' xs (from text from') i ty (words_at text at) K)
       by X most bottom zero S σ K z = refl
       by X most bottom (suc k) S σ K z = absurd (omega arith)
 
@@ -87,21 +87,21 @@ module _ (text w : List ℕ) (h : Walk) (round' from' count i ty at : ℕ) where
 
   pub made-goes :
       ¬ (h.more ≡ 1) → h.top ≤ most_entries → h.waiting ≤ 2048 → ty < get_or w type_count_at 0 → NamesStand head_at behind text from' count → ReadableFrom text at → CanAskTerm w h
-      → (n : Walk) (w₁ : List ℕ) → Below w h values_level h.frame h.top h.waiting at n w₁ → (x : code.MadeTerm) (w₂ : List ℕ) → VariableSays w₁ i ty round' x w₂
-      → (r : step.Step) → r ≡ done_step n x at → EnterSays text w h (list_made_entry text round' from' count i ty at) r w₂
+      → (n : Walk) (w₁ : List ℕ) → Below w h values_level h.frame h.top h.waiting at n w₁ → (x : Result Sub Refusal) (w₂ : List ℕ) → VariableSays w₁ i ty round' x w₂
+      → (r : Result Walk Refusal) → r ≡ done_step n x at → EnterSays text w h (list_made_entry text round' from' count i ty at) r w₂
   made-goes some top few known stand rd C n w₁ B x w₂ Y r e = record {
-    stepped = stepped_then h.more h.top h.waiting w w₁ w₂ (stepped_asks w h values_level h.frame h.top h.waiting at (step_is.Going n) w₁ C A) (stepped_made h.more h.top h.waiting w₁ w₂ top few Y.only);
+    stepped = stepped_then h.more h.top h.waiting w w₁ w₂ (stepped_asks w h values_level h.frame h.top h.waiting at (Ok n) w₁ C A) (stepped_made h.more h.top h.waiting w₁ w₂ top few Y.only);
     says = λ X most bottom k S σ K c g. rw e (by X most bottom k S σ K c g);
   }
     where
-      A : Asks w h values_level h.frame h.top h.waiting at (step_is.Going n) w₁
+      A : Asks w h values_level h.frame h.top h.waiting at (Ok n) w₁
       A = asks-below w h values_level h.frame h.top h.waiting at n w₁ B
 
       by : (X : Text) (most bottom k : ℕ) (S : Scope) (σ : State) (K : List TermLevel) → h.more ≡ suc k → HereHeld text X most bottom w h S σ K → StepAnswers text X most bottom w₂ (done_step n x at) (list_made k S σ round' xs (from text from') i ty (words_at text at) K)
       by X most bottom zero S σ K c g = absurd (some c)
       by X most bottom (suc k) S σ K c g =
           let L : TermLevel = record { wish = value_of_names round' xs (from text from'); scope = S } in
-          let held = asked text X most bottom w h S σ K (suc k) c g values_level (value_of_names round' xs (from text from')) h.frame h.top h.waiting at S (refl, refl, refl, stand, refl) (record { walkable = g.scope.walkable; above = omega (arith, g.scope.above, c); variables = g.scope.variables }) (omega arith) (omega arith) g.few rd (step_is.Going n) w₁ A in
+          let held = asked text X most bottom w h S σ K (suc k) c g values_level (value_of_names round' xs (from text from')) h.frame h.top h.waiting at S (refl, refl, refl, stand, refl) (record { walkable = g.scope.walkable; above = omega (arith, g.scope.above, c); variables = g.scope.variables }) (omega arith) (omega arith) g.few rd (Ok n) w₁ A in
           let G : HereHeld text X most bottom w₁ n S σ (L ∷ K) = held.3 in
           let top' : n.top ≤ most_entries = omega (arith, ap (λ (m : Walk). m.top) B.state) in
           let few' : n.waiting ≤ 2048 = omega (arith, ap (λ (m : Walk). m.waiting) B.state) in
@@ -111,15 +111,15 @@ module _ (text w : List ℕ) (h : Walk) (round' from' count i ty at : ℕ) where
 pub made_small : (text w : List ℕ) (h : Walk) (l : Level) (ty at : ℕ) → CanBound text w h ty at → CanAskTerm w h → (n : Walk) (w₁ : List ℕ) → Below w h l h.frame h.top h.waiting at n w₁ → (making_size ≤ length w₁) × (ty < 256)
 made_small text w h l ty at D C n w₁ B =
     let H = D.can.here.scope.walkable.state in
-    (omega (arith, C.room, (stepped_asks w h l h.frame h.top h.waiting at (step_is.Going n) w₁ C (asks-below w h l h.frame h.top h.waiting at n w₁ B)).walked.same), omega (arith, D.known, H.types.count, H.types.ok.few))
+    (omega (arith, C.room, (stepped_asks w h l h.frame h.top h.waiting at (Ok n) w₁ C (asks-below w h l h.frame h.top h.waiting at n w₁ B)).walked.same), omega (arith, D.known, H.types.count, H.types.ok.few))
 
 -- ---- a list in the body
 
 module _ (text w : List ℕ) (n : Walk) (round' from' count at : ℕ) where
-  pub body-none : n.more ≡ 0 → BodySays text w n (list_in_body text round' from' count at) (step_is.Refused 34 round') w
+  pub body-none : n.more ≡ 0 → BodySays text w n (list_in_body text round' from' count at) (Err (refusal_at Reason.TextLimit round')) w
   body-none e = record {
     stepped = stepped_none n.more n.top n.waiting w;
-    says = λ X most bottom S σ K g. subst (λ (m : ℕ). StepAnswers text X most bottom w (step_is.Refused 34 round') (list_in_body text round' from' count at m S σ K)) (sym e) refl;
+    says = λ X most bottom S σ K g. subst (λ (m : ℕ). StepAnswers text X most bottom w (Err (refusal_at Reason.TextLimit round')) (list_in_body text round' from' count at m S σ K)) (sym e) refl;
   }
 
   pub look_can : CanBody text w n → CanLookAt w n.frame n.top
@@ -127,19 +127,19 @@ module _ (text w : List ℕ) (n : Walk) (round' from' count at : ℕ) where
       let W = C.here.scope.walkable in
       record { room = W.room; most = W.scope.places.most; level = W.level; ordered = omega (arith, C.here.scope.variables, W.scope.entries) }
 
-  module _ (some : ¬ (n.more ≡ 0)) (opens : get_or text round' 0 ≡ 40) (y : looked.Look) (L : LookAtSays w round' n.frame n.top y) where
-    pub body-nowhere : y ≡ look.Nowhere → BodySays text w n (list_in_body text round' from' count at) (step_is.Refused 32 round') w
+  module _ (some : ¬ (n.more ≡ 0)) (opens : get_or text round' 0 ≡ 40) (y : Option Look) (L : LookAtSays w round' n.frame n.top y) where
+    pub body-nowhere : y ≡ None → BodySays text w n (list_in_body text round' from' count at) (Err (refusal_at Reason.OtherWordDue round')) w
     body-nowhere ey = record {
       stepped = stepped_none n.more n.top n.waiting w;
       says = λ X most bottom S σ K g. by X most bottom S σ K g n.more refl;
     }
       where
-        by : (X : Text) (most bottom : ℕ) (S : Scope) (σ : State) (K : List TermLevel) → HereHeld text X most bottom w n S σ K → (m : ℕ) → n.more ≡ m → StepAnswers text X most bottom w (step_is.Refused 32 round') (list_in_body text round' from' count at m S σ K)
+        by : (X : Text) (most bottom : ℕ) (S : Scope) (σ : State) (K : List TermLevel) → HereHeld text X most bottom w n S σ K → (m : ℕ) → n.more ≡ m → StepAnswers text X most bottom w (Err (refusal_at Reason.OtherWordDue round')) (list_in_body text round' from' count at m S σ K)
         by X most bottom S σ K g zero e = absurd (some e)
-        by X most bottom S σ K g (suc k) e = subst (λ (a : Answer Terming). StepAnswers text X most bottom w (step_is.Refused 32 round') a) (sym (looked_nowhere (nameless round').name (λ i t. list_made k S σ round' (listed_names text from' count) (from text from') i t (words_at text at) K) (refuse 32 round') S.variables ((subst (LookAtSays w round' n.frame n.top) ey L).says text S opens g.scope.walkable.scope g.scope.variables))) refl
+        by X most bottom S σ K g (suc k) e = subst (λ (a : Answer Terming). StepAnswers text X most bottom w (Err (refusal_at Reason.OtherWordDue round')) a) (sym (looked_nowhere (nameless round').name (λ i t. list_made k S σ round' (listed_names text from' count) (from text from') i t (words_at text at) K) (refuse 32 round') S.variables ((subst (LookAtSays w round' n.frame n.top) ey L).says text S opens g.scope.walkable.scope g.scope.variables))) refl
 
-    module _ (i t : ℕ) (ey : y ≡ look.Here i t) where
-      pub body-here : (r : step.Step) (w' : List ℕ) → EnterSays text w n (list_made_entry text round' from' count i t at) r w' → BodySays text w n (list_in_body text round' from' count at) r w'
+    module _ (i t : ℕ) (ey : y ≡ Some (record { number = i; ty = t })) where
+      pub body-here : (r : Result Walk Refusal) (w' : List ℕ) → EnterSays text w n (list_made_entry text round' from' count i t at) r w' → BodySays text w n (list_in_body text round' from' count at) r w'
       body-here r w' E = record {
         stepped = E.stepped;
         says = λ X most bottom S σ K g. by X most bottom S σ K g n.more refl;
@@ -157,47 +157,47 @@ module _ (text w : List ℕ) (n : Walk) (round' from' count at : ℕ) where
 
 -- ---- the next list, or the body itself
 
-module _ (text w : List ℕ) (n : Walk) (next at : ℕ) (l : NextList) (N : NextSays text next l) where
+module _ (text w : List ℕ) (n : Walk) (next at : ℕ) where
   -- what is done where a list is next, or none is
   abbrev under_by : Bool → ℕ → Scope → State → List TermLevel → Answer Terming
   under_by b more S σ K = cond b (list_from head_at (length (next_list (from text next))) (behind (next_list (from text next))) >>= λ xs. list_below more S σ (place (next_list (from text next))) xs.value (behind (next_list (from text next))) (words_at text at) K) (good (wanted_term more S σ (behind (words_at text at)) K))
 
-  pub under_none : l.found ≡ false → (v : code-word.Word) → Looks text at v → (m : Walk) → m ≡ walk_at n v.end → BodySays text w n (under_lists_body text next at) (step_is.Going m) w
-  under_none e v looks m em = record {
+  pub under_none : NextSays text next None → (v : code-word.Word) → Looks text at v → (m : Walk) → m ≡ walk_at n v.end → BodySays text w n (under_lists_body text next at) (Ok m) w
+  under_none N v looks m em = record {
     stepped = stepped_none n.more n.top n.waiting w;
     says = λ X most bottom S σ K g.
-        subst (λ (b : Bool). StepAnswers text X most bottom w (step_is.Going m) (under_by b n.more S σ K)) (sym e ∙ N.found) (
-        subst (λ (q : Walk). StepAnswers text X most bottom w (step_is.Going q) (good (wanted_term n.more S σ (behind (words_at text at)) K))) (sym em)
+        subst (λ (b : Bool). StepAnswers text X most bottom w (Ok m) (under_by b n.more S σ K)) (sym N.0) (
+        subst (λ (q : Walk). StepAnswers text X most bottom w (Ok q) (good (wanted_term n.more S σ (behind (words_at text at)) K))) (sym em)
         (refl, refl, record { is = looks.rest; readable = looks.readable }, record { scope = g.scope; few = g.few; levels = g.levels; nested = g.nested }));
   }
 
-  module _ (e : l.found ≡ true) (x : NamesEnd) (Y : ListedSay text l.end x) where
+  module _ (l : NextList) (N : NextRead text next l) where
     abbrev us : List Word
     us = next_list (from text next)
 
-    pub under_refused : ¬ (x.number ≡ 0) → BodySays text w n (under_lists_body text next at) (step_is.Refused x.number x.end) w
-    under_refused z = record {
+    pub under_refused : (z : Refusal) → ListedSay text l.end (Err z) → BodySays text w n (under_lists_body text next at) (Err z) w
+    under_refused z Y = record {
       stepped = stepped_none n.more n.top n.waiting w;
       says = λ X most bottom S σ K g.
-          let O = N.opens e in
-          subst (λ (b : Bool). StepAnswers text X most bottom w (step_is.Refused x.number x.end) (under_by b n.more S σ K)) (sym e ∙ N.found) (
-          rw (ap (list_from head_at (length us)) O.rest ∙ Y.refuses z (length us) O.fewer) refl);
+          let O = N.opens in
+          subst (λ (b : Bool). StepAnswers text X most bottom w (Err z) (under_by b n.more S σ K)) (sym N.found) (
+          rw (ap (list_from head_at (length us)) O.rest ∙ Y (length us) O.fewer) refl);
     }
 
-    pub under_some : x.number ≡ 0 → (r : step.Step) (w' : List ℕ) → BodySays text w n (list_in_body text l.place l.end x.count at) r w' → BodySays text w n (under_lists_body text next at) r w'
-    under_some z r w' E = record {
+    pub under_some : (x : NamesEnd) → ListedSay text l.end (Ok x) → (r : Result Walk Refusal) (w' : List ℕ) → BodySays text w n (list_in_body text l.place l.end x.count at) r w' → BodySays text w n (under_lists_body text next at) r w'
+    under_some x Y r w' E = record {
       stepped = E.stepped;
       says = λ X most bottom S σ K g.
-          let O = N.opens e in
+          let O = N.opens in
           let F : ℕ → List Bound → List Word → Answer Terming = λ p ns vs. list_below n.more S σ p ns vs (words_at text at) K in
-          subst (λ (b : Bool). StepAnswers text X most bottom w' r (under_by b n.more S σ K)) (sym e ∙ N.found) (
-          subst (λ (m : Answer (Got (List Bound))). StepAnswers text X most bottom w' r (m >>= λ xs. F (place us) xs.value (behind us))) (sym (ap (list_from head_at (length us)) O.rest ∙ Y.reads z (length us) O.fewer)) (
+          subst (λ (b : Bool). StepAnswers text X most bottom w' r (under_by b n.more S σ K)) (sym N.found) (
+          subst (λ (m : Answer (Got (List Bound))). StepAnswers text X most bottom w' r (m >>= λ xs. F (place us) xs.value (behind us))) (sym (ap (list_from head_at (length us)) O.rest ∙ Y.reads (length us) O.fewer)) (
           subst (λ (p : ℕ). StepAnswers text X most bottom w' r (F p (listed_names text l.end x.count) (behind us))) O.place (
           subst (λ (vs : List Word). StepAnswers text X most bottom w' r (F l.place (listed_names text l.end x.count) vs)) (sym O.rest) (E.says X most bottom S σ K g))));
     }
 
-    pub under-stands : CanBody text w n → x.number ≡ 0 → ListStands text l.place l.end x.count
-    under-stands C z = record { inside = omega (arith, (N.opens e).inside); opens = (N.opens e).byte; names = Y.stand z; few = omega (arith, Y.few, C.here.scope.walkable.short) }
+    pub under-stands : CanBody text w n → (x : NamesEnd) → ListedSay text l.end (Ok x) → ListStands text l.place l.end x.count
+    under-stands C x Y = record { inside = omega (arith, N.opens.inside); opens = N.opens.byte; names = Y.stand; few = omega (arith, Y.few, C.here.scope.walkable.short) }
 
 -- .. behind `fun`
 pub opens_at : (text : List ℕ) (at : ℕ) → Lexed text at → (v : code-word.Word) → Stands text at (said_word v) → v.kind ≡ 11 → Opens text v.start at v.end

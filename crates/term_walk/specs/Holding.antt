@@ -20,6 +20,7 @@ use Rattle.walks.specs.Walked.{TermsWalked}
 use Rattle.term_parts.specs.Names.{NamesStand, listed_names}
 use Rattle.term_parts.specs.Halves.{ElementsIn, TakenIn}
 use Rattle.term_walk.specs.declared.Walk.{Walk}
+use Rattle.term_walk.specs.declared.Phase.{Phase}
 use Rattle.term_walk.specs.declared.Left.{Left}
 use Rattle.term_walk.specs.Looks.{words_at, ReadableFrom}
 
@@ -124,6 +125,6 @@ pub record AtWords (text : List ℕ) (n : Walk) (ws : List Word) : Type 0 where
   pub readable : ReadableFrom text n.at
 
 abbrev pub HoldsTerming : List ℕ → Text → ℕ → ℕ → List ℕ → Walk → Terming → Type 0
-HoldsTerming text X most bottom w n (wanted_term more S σ ws K) = (n.phase ≡ 0) × (n.more ≡ more) × AtWords text n ws × HereHeld text X most bottom w n S σ K
-HoldsTerming text X most bottom w n (came_term more m ws K) = (n.phase ≡ 1) × (n.more ≡ more) × AtWords text n ws × CameHere text X most bottom w n m K
-HoldsTerming text X most bottom w n (applying more S at f ws K) = (n.phase ≡ 2) × (n.more ≡ suc more) × AtWords text n ws × (n.place ≡ at) × HereHeld text X most bottom w n S f.state K × TermCame w n.sub n.waiting f
+HoldsTerming text X most bottom w n (wanted_term more S σ ws K) = (n.phase ≡ Phase.Wanted) × (n.more ≡ more) × AtWords text n ws × HereHeld text X most bottom w n S σ K
+HoldsTerming text X most bottom w n (came_term more m ws K) = (n.phase ≡ Phase.Came) × (n.more ≡ more) × AtWords text n ws × CameHere text X most bottom w n m K
+HoldsTerming text X most bottom w n (applying more S at f ws K) = (n.phase ≡ Phase.Applying) × (n.more ≡ suc more) × AtWords text n ws × (n.place ≡ at) × HereHeld text X most bottom w n S f.state K × TermCame w n.sub n.waiting f

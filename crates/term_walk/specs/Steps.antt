@@ -1,6 +1,8 @@
 -- What the functions of one step answer: in each record, whatever state the memory held, the answer is that of the machine. Assumes nothing.
-use Rattle.std.specs.Prelude.{ℕ, suc, ◌+◌, ◌-◌, ◌≤◌, ◌<◌, ◌≡◌, Bool, true, false, List, [], ◌∷◌, length, get_or}
-use Rattle.calculus.specs.Answer.{Answer, good, refused, numbered, ◌>>=◌}
+use Rattle.std.specs.Prelude.{ℕ, suc, ◌+◌, ◌-◌, ◌≤◌, ◌<◌, ◌≡◌, Bool, true, false, List, [], ◌∷◌, length, get_or, Result, Ok, Err}
+use Rattle.answers.specs.declared.Refusal.{Refusal}
+use Rattle.answers.specs.Refusals.{said_why}
+use Rattle.calculus.specs.Answer.{Answer, good, refused, ◌>>=◌}
 use Rattle.notation_calculus.specs.Words.{endRound, equals, Word}
 use Rattle.notation_calculus.specs.Trees.{Text}
 use Rattle.notation_calculus.specs.Grammar.{most_nested, peek, behind, place, expect, list_from, nameless}
@@ -18,19 +20,16 @@ use Rattle.making_memory.specs.Map.{type_count_at, making_size}
 use Rattle.made_types.specs.Held.{HoldsState}
 use Rattle.made_nodes.specs.Held.{MadeIn, Workable}
 use Rattle.made_nodes.specs.declared.Sub.{Sub}
-use Rattle.made_nodes.specs.declared.MadeTerm as code
-use Rattle.made_nodes.specs.declared.MadeTerm.TheVariants as made
 use Rattle.walk_levels.specs.declared.Level.{Level}
 use Rattle.walk_levels.specs.declared.Around.{Around}
 use Rattle.walk_levels.specs.Levels.{pushed}
 use Rattle.walks.specs.Walkable.{row_bodies, Walkable}
 use Rattle.walks.specs.Walked.{TypesWalked, TermsWalked}
 use Rattle.walks.specs.Says.{bound_at, CanWalk, TypeAnswers, put_from}
-use Rattle.walks.specs.declared.TypeEnd as type
+use Rattle.walks.specs.declared.TypeEnd.{TypeEnd}
 use Rattle.term_walk.specs.declared.Walk.{Walk}
+use Rattle.term_walk.specs.declared.Phase.{Phase}
 use Rattle.term_walk.specs.declared.Left.{Left}
-use Rattle.term_walk.specs.declared.Step as step
-use Rattle.term_walk.specs.declared.Step.TheVariants as step_is
 use Rattle.term_parts.specs.Names.{NamesStand, spaced_names, listed_names}
 use Rattle.term_walk.specs.Looks.{words_at, ReadableFrom}
 use Rattle.term_walk.specs.Holding.{LevelWrites, LeftHeld, entries_of, halves_for, WishHeld, HereHeld, TermCame, HoldsTerming}
@@ -41,22 +40,30 @@ abbrev pub nothing_sub : Sub
 nothing_sub = record { node = 0; ty = 0; deep = 0 }
 
 abbrev pub wants_walk : Walk → ℕ → ℕ → ℕ → ℕ → Walk
-wants_walk h frame top waiting at = record { phase = 0; more = h.more - 1; frame = frame; top = top; waiting = waiting; place = 0; sub = nothing_sub; at = at }
+wants_walk h frame top waiting at = record { phase = Phase.Wanted; more = h.more - 1; frame = frame; top = top; waiting = waiting; place = 0; sub = nothing_sub; at = at }
 
 -- the walk itself, at an offset
 abbrev pub walk_at : Walk → ℕ → Walk
-walk_at n at = record { phase = 0; more = n.more; frame = n.frame; top = n.top; waiting = n.waiting; place = 0; sub = nothing_sub; at = at }
+walk_at n at = record { phase = Phase.Wanted; more = n.more; frame = n.frame; top = n.top; waiting = n.waiting; place = 0; sub = nothing_sub; at = at }
 
-abbrev pub wants_step : Walk → ℕ → ℕ → ℕ → ℕ → step.Step
-wants_step h frame top waiting at = step_is.Going (wants_walk h frame top waiting at)
+abbrev pub wants_step : Walk → ℕ → ℕ → ℕ → ℕ → Result Walk Refusal
+wants_step h frame top waiting at = Ok (wants_walk h frame top waiting at)
 
-abbrev pub done_step : Walk → code.MadeTerm → ℕ → step.Step
-done_step h (made.Refused number place) at = step_is.Refused number place
-done_step h (made.At sub) at = step_is.Going (record { phase = 1; more = h.more; frame = h.frame; top = h.top; waiting = h.waiting; place = 0; sub = sub; at = at })
+-- a term came, of the level; or it is the function of an application that begins at a place
+abbrev pub done_walk : Walk → Sub → ℕ → Walk
+done_walk h sub at = record { phase = Phase.Came; more = h.more; frame = h.frame; top = h.top; waiting = h.waiting; place = 0; sub = sub; at = at }
 
-abbrev pub applies_step : Walk → ℕ → code.MadeTerm → ℕ → step.Step
-applies_step h begins (made.Refused number place) at = step_is.Refused number place
-applies_step h begins (made.At sub) at = step_is.Going (record { phase = 2; more = h.more; frame = h.frame; top = h.top; waiting = h.waiting; place = begins; sub = sub; at = at })
+abbrev pub applying_walk : Walk → ℕ → Sub → ℕ → Walk
+applying_walk h begins sub at = record { phase = Phase.Applying; more = h.more; frame = h.frame; top = h.top; waiting = h.waiting; place = begins; sub = sub; at = at }
+
+-- .. if it could be made
+abbrev pub done_step : Walk → Result Sub Refusal → ℕ → Result Walk Refusal
+done_step h (Err e) at = Err e
+done_step h (Ok sub) at = Ok (done_walk h sub at)
+
+abbrev pub applies_step : Walk → ℕ → Result Sub Refusal → ℕ → Result Walk Refusal
+applies_step h begins (Err e) at = Err e
+applies_step h begins (Ok sub) at = Ok (applying_walk h begins sub at)
 
 abbrev pub part_level : ℕ → Left → ℕ → ℕ → Level
 part_level form s count next = record { form = form; flag = s.flag; place = s.place; count = count; node = s.sub.node; ty = s.sub.ty; deep = s.sub.deep; next = next }
@@ -80,17 +87,17 @@ pub record Below (w : List ℕ) (h : Walk) (l : Level) (frame top waiting at : �
   pub state : r ≡ wants_walk h frame top waiting at
 
 -- the level waits, and the term at an offset is wanted in a scope
-pub record Asks (w : List ℕ) (h : Walk) (l : Level) (frame top waiting at : ℕ) (r : step.Step) (w' : List ℕ) : Type 0 where
+pub record Asks (w : List ℕ) (h : Walk) (l : Level) (frame top waiting at : ℕ) (r : Result Walk Refusal) (w' : List ℕ) : Type 0 where
   pub memory : w' ≡ pushed w h.more l (around_walk h)
   pub state : r ≡ wants_step h frame top waiting at
 
 -- ---- answers
 
-abbrev pub StepAnswers : List ℕ → Text → ℕ → ℕ → List ℕ → step.Step → Answer Terming → Type 0
-StepAnswers text X most bottom w (step_is.Going n) (good s) = HoldsTerming text X most bottom w n s
-StepAnswers text X most bottom w (step_is.Going n) (refused why) = ⊥
-StepAnswers text X most bottom w (step_is.Refused number place) (good s) = ⊥
-StepAnswers text X most bottom w (step_is.Refused number place) (refused why) = why ≡ numbered number place
+abbrev pub StepAnswers : List ℕ → Text → ℕ → ℕ → List ℕ → Result Walk Refusal → Answer Terming → Type 0
+StepAnswers text X most bottom w (Ok n) (good s) = HoldsTerming text X most bottom w n s
+StepAnswers text X most bottom w (Ok n) (refused why) = ⊥
+StepAnswers text X most bottom w (Err e) (good s) = ⊥
+StepAnswers text X most bottom w (Err e) (refused why) = why ≡ said_why e
 
 -- the level of the machine that the walk is at
 abbrev pub term_here_with : ℕ → Scope → List TermLevel → TermHere
@@ -118,7 +125,7 @@ pub record CanEnter (text w : List ℕ) (h : Walk) : Type 0 where
   pub is : h.more ≡ suc k
   pub here : HereHeld text X most bottom w h S σ K
 
-pub record EnterSays (text w : List ℕ) (h : Walk) (D : LevelEntry) (r : step.Step) (w' : List ℕ) : Type 0 where
+pub record EnterSays (text w : List ℕ) (h : Walk) (D : LevelEntry) (r : Result Walk Refusal) (w' : List ℕ) : Type 0 where
   pub stepped : LevelWrites h.more h.top h.waiting w w'
   pub says : (X : Text) (most bottom k : ℕ) (S : Scope) (σ : State) (K : List TermLevel) → h.more ≡ suc k → HereHeld text X most bottom w h S σ K → StepAnswers text X most bottom w' r (D X (bodies_in text w X) (term_here_with k S K) σ)
 
@@ -135,7 +142,7 @@ pub record CanAtom (text w : List ℕ) (h : Walk) (s : Left) : Type 0 where
   pub p : Spine
   pub left : LeftHeld w s p
 
-pub record AtomSays (text w : List ℕ) (h : Walk) (s : Left) (D : AtomEntry) (r : step.Step) (w' : List ℕ) : Type 0 where
+pub record AtomSays (text w : List ℕ) (h : Walk) (s : Left) (D : AtomEntry) (r : Result Walk Refusal) (w' : List ℕ) : Type 0 where
   pub stepped : LevelWrites h.more h.top h.waiting w w'
   pub says : (X : Text) (most bottom k : ℕ) (S : Scope) (σ : State) (K : List TermLevel) (p : Spine) → h.more ≡ suc k → HereHeld text X most bottom w h S σ K → LeftHeld w s p → StepAnswers text X most bottom w' r (D X (bodies_in text w X) (term_here_with k S K) p σ)
 
@@ -280,7 +287,7 @@ pub record CanBody (text w : List ℕ) (n : Walk) : Type 0 where
   pub K : List TermLevel
   pub here : HereHeld text X most bottom w n S σ K
 
-pub record BodySays (text w : List ℕ) (n : Walk) (D : BodyEntry) (r : step.Step) (w' : List ℕ) : Type 0 where
+pub record BodySays (text w : List ℕ) (n : Walk) (D : BodyEntry) (r : Result Walk Refusal) (w' : List ℕ) : Type 0 where
   pub stepped : LevelWrites n.more n.top n.waiting w w'
   pub says : (X : Text) (most bottom : ℕ) (S : Scope) (σ : State) (K : List TermLevel) → HereHeld text X most bottom w n S σ K → StepAnswers text X most bottom w' r (D n.more S σ K)
 
@@ -300,7 +307,7 @@ pub record CanBehind (text w : List ℕ) (at more frame top : ℕ) : Type 0 wher
   pub above : more ≤ frame
   pub levels : more ≤ most_nested
 
-pub record BehindType (text w : List ℕ) (at more frame top : ℕ) (r : type.TypeEnd) (w' : List ℕ) : Type 0 where
+pub record BehindType (text w : List ℕ) (at more frame top : ℕ) (r : Result TypeEnd Refusal) (w' : List ℕ) : Type 0 where
   pub walked : TypesWalked more top w w'
   pub says : (X : Text) (S : Scope) (σ : State) → Walkable text w frame top X S σ → TypeAnswers text w' r (type_from X more S σ (words_at text at))
 
@@ -312,28 +319,28 @@ pub record CanApply (w : List ℕ) (s : Left) (x : Sub) : Type 0 where
   pub p : Spine
   pub left : LeftHeld w s p
 
-pub record BehindSays (w : List ℕ) (h : Walk) (s : Left) (x : Sub) (at : ℕ) (r : step.Step) (w' : List ℕ) : Type 0 where
+pub record BehindSays (w : List ℕ) (h : Walk) (s : Left) (x : Sub) (at : ℕ) (r : Result Walk Refusal) (w' : List ℕ) : Type 0 where
   pub stepped : h.top ≤ most_entries → h.waiting ≤ 2048 → LevelWrites h.more h.top h.waiting w w'
   pub says :
       (text : List ℕ) (X : Text) (most bottom k : ℕ) (S : Scope) (K : List TermLevel) (p : Spine) (m : Made) → h.more ≡ suc k → ReadableFrom text at
       → HereHeld text X most bottom w h S m.state K → TermCame w x h.waiting m → LeftHeld w s p → StepAnswers text X most bottom w' r (behind_atom (term_here_with k S K) p m (words_at text at))
 
 -- .. if it could be made
-abbrev pub CanApplyMade : List ℕ → Left → code.MadeTerm → Type 0
-CanApplyMade w s (made.At x) = CanApply w s x
-CanApplyMade w s (made.Refused number place) = Unit {0}
+abbrev pub CanApplyMade : List ℕ → Left → Result Sub Refusal → Type 0
+CanApplyMade w s (Ok x) = CanApply w s x
+CanApplyMade w s (Err e) = Unit {0}
 
 -- whatever state the memory holds, the level is there, and there is a node for the term that came
 pub record HereNow (text : List ℕ) (X : Text) (most bottom : ℕ) (w : List ℕ) (h : Walk) (S : Scope) (K : List TermLevel) : Type 0 where
   pub now : (σ : State) → HoldsState w σ → HereHeld text X most bottom w h S σ K
 
 -- a term that was made has a node of its own
-abbrev pub MadeNodes : ℕ → code.MadeTerm → Answer Made → Type 0
-MadeNodes waiting (made.At x) (good m) = suc waiting ≤ m.state.nodes
-MadeNodes waiting (made.At x) (refused why) = Unit {0}
-MadeNodes waiting (made.Refused number place) a = Unit {0}
+abbrev pub MadeNodes : ℕ → Result Sub Refusal → Answer Made → Type 0
+MadeNodes waiting (Ok x) (good m) = suc waiting ≤ m.state.nodes
+MadeNodes waiting (Ok x) (refused why) = Unit {0}
+MadeNodes waiting (Err e) a = Unit {0}
 
-pub record MadeSays (w : List ℕ) (h : Walk) (s : Left) (x : code.MadeTerm) (at : ℕ) (r : step.Step) (w' : List ℕ) : Type 0 where
+pub record MadeSays (w : List ℕ) (h : Walk) (s : Left) (x : Result Sub Refusal) (at : ℕ) (r : Result Walk Refusal) (w' : List ℕ) : Type 0 where
   pub stepped : h.top ≤ most_entries → h.waiting ≤ 2048 → LevelWrites h.more h.top h.waiting w w'
   pub says :
       (text : List ℕ) (X : Text) (most bottom k : ℕ) (S : Scope) (K : List TermLevel) (p : Spine) (a : Answer Made) → h.more ≡ suc k → ReadableFrom text at
@@ -357,7 +364,7 @@ pub record CanLeave (text w : List ℕ) (h : Walk) (l : Level) (x : Sub) : Type 
   pub came : TermCame w x (h.waiting + halves_for wish) m
   pub readable : ReadableFrom text h.at
 
-pub record LeaveSays (text w : List ℕ) (h : Walk) (l : Level) (x : Sub) (r : step.Step) (w' : List ℕ) : Type 0 where
+pub record LeaveSays (text w : List ℕ) (h : Walk) (l : Level) (x : Sub) (r : Result Walk Refusal) (w' : List ℕ) : Type 0 where
   pub stepped : LevelWrites h.more h.top h.waiting w w'
   pub says :
       (X : Text) (most bottom k : ℕ) (S : Scope) (K : List TermLevel) (wish : TermWish) (m : Made) → h.more ≡ suc k → HereHeld text X most bottom w h S m.state K
@@ -379,7 +386,7 @@ pub record CanApplication (text w : List ℕ) (h : Walk) : Type 0 where
   pub came : TermCame w h.sub h.waiting f
   pub readable : ReadableFrom text h.at
 
-pub record ApplicationSays (text w : List ℕ) (h : Walk) (r : step.Step) (w' : List ℕ) : Type 0 where
+pub record ApplicationSays (text w : List ℕ) (h : Walk) (r : Result Walk Refusal) (w' : List ℕ) : Type 0 where
   pub stepped : LevelWrites h.more h.top h.waiting w w'
   pub says :
       (X : Text) (most bottom k : ℕ) (S : Scope) (f : Made) (K : List TermLevel) → h.more ≡ suc k → HereHeld text X most bottom w h S f.state K → TermCame w h.sub h.waiting f
@@ -395,12 +402,12 @@ pub record CanMoveTerm (text w : List ℕ) (n : Walk) : Type 0 where
   pub holds : HoldsTerming text X most bottom w n s
   pub going : TermGoing s
 
-pub record StepSays (text w : List ℕ) (n : Walk) (r : step.Step) (w' : List ℕ) : Type 0 where
+pub record StepSays (text w : List ℕ) (n : Walk) (r : Result Walk Refusal) (w' : List ℕ) : Type 0 where
   pub says :
       (X : Text) (most bottom : ℕ) (s : Terming) → HoldsTerming text X most bottom w n s → TermGoing s
       → TermsWalked most bottom w w' × StepAnswers text X most bottom w' r (term_move X (bodies_in text w X) s)
 
 -- a term came at the level that the walk began with
 pub record Finished (n : Walk) (more : ℕ) (r : Bool) : Type 0 where
-  pub yes : r ≡ true → (n.phase ≡ 1) × (n.more ≡ more)
-  pub not : r ≡ false → n.phase ≡ 1 → ¬ (n.more ≡ more)
+  pub yes : r ≡ true → (n.phase ≡ Phase.Came) × (n.more ≡ more)
+  pub not : r ≡ false → n.phase ≡ Phase.Came → ¬ (n.more ≡ more)

@@ -6,10 +6,9 @@ ghost use Rattle.words.specs.Lexed.{Lexed};
 ghost use Rattle.term_walk.specs.Looks.{Looks};
 ghost use Rattle.term_walk.specs.Steps.{left_here, CanApply, BehindSays, CanApplyMade, MadeSays, CanAtom, AtomSays, TypesWait, clause_entry, put_entry, plain_entry, named_entry, atom_entry, CanApplication, ApplicationSays};
 
-use crate::{Left, Step, Walk, looks};
-use made_nodes::{MadeTerm, Sub};
-use term_parts::variables::Look;
-use walks::{PutEnd, TypesEnd};
+use crate::{Left, Walk, looks};
+use answers::{Reason, Refusal};
+use made_nodes::Sub;
 
 const ROUND: u8 = 11;
 
@@ -18,26 +17,15 @@ const SQUARE: u8 = 17;
 const CURLY: u8 = 19;
 
 // An atom is there: it is the function, or the argument of the function so far.
-pub fn behind_atom(work: &mut [u16], h: Walk, s: Left, x: Sub, at: usize) -> Step
+pub fn behind_atom(work: &mut [u16], h: Walk, s: Left, x: Sub, at: usize) -> Result<Walk, Refusal>
     requires { CanApply work.old s x }
     ensures { BehindSays work.old h s x at result work.new }
 {
     if s.flag == 0 {
-        return crate::applies(h, s.place, MadeTerm::At(x), at);
+        return Ok(crate::applies(h, s.place, x, at));
     }
-    let made = made_nodes::pairs::applied(work, s.place, s.sub, x);
-    crate::applies(h, s.place, made, at)
-}
-
-// .. where it could be made.
-pub fn behind_made(work: &mut [u16], h: Walk, s: Left, made: MadeTerm, at: usize) -> Step
-    requires { CanApplyMade work.old s made }
-    ensures { MadeSays work.old h s made at result work.new }
-{
-    match made {
-        MadeTerm::Refused(number, place) => Step::Refused(number, made_types::wide(place)),
-        MadeTerm::At(x) => behind_atom(work, h, s, x, at),
-    }
+    let made = made_nodes::pairs::applied(work, s.place, s.sub, x)?;
+    Ok(crate::applies(h, s.place, made, at))
 }
 
 // A definition is put in, with so many type arguments that wait; its body is wanted, and the level waits before the words behind the name
@@ -50,50 +38,60 @@ fn put_clause(
     name: usize,
     at: usize,
     types: usize,
-) -> Step
+) -> Result<Walk, Refusal>
     requires { (CanAtom text.now work.old h s) × ((Lexed text.now at) × ((name ≤ length text.now) × ((h.top + types ≤ most_entries) × TypesWait work.old h.top types))) }
     ensures { AtomSays text.now work.old h s (clause_entry text.now work.old name at h.top types) result work.new }
 {
     let below = h.more - 1;
-    let put = putting::put_in(text, work, false, name, at, types, h.frame, h.top, below);
-    match put {
-        PutEnd::Refused(number, place) => Step::Refused(number, place),
-        PutEnd::At(q) => {
-            let l = crate::part_level(crate::OF_DEFINITION, s, 0, q.end as u16);
-            crate::ask(work, h, l, below, q.top, h.waiting, q.body)
-        }
-    }
+    let q = putting::put_in(text, work, false, name, at, types, h.frame, h.top, below)?;
+    let l = crate::part_level(crate::OF_DEFINITION, s, 0, q.end as u16);
+    crate::ask(work, h, l, below, q.top, h.waiting, q.body)
 }
 
 // A name that is no variable: its type arguments, and then the definition.
-fn put_term(text: &[u8], work: &mut [u16], h: Walk, s: Left, name: usize, at: usize) -> Step
+fn put_term(
+    text: &[u8],
+    work: &mut [u16],
+    h: Walk,
+    s: Left,
+    name: usize,
+    at: usize,
+) -> Result<Walk, Refusal>
     requires { (CanAtom text.now work.old h s) × ((Lexed text.now at) × (name ≤ length text.now)) }
     ensures { AtomSays text.now work.old h s (put_entry text.now name at) result work.new }
 {
-    let types = type_walk::types_from(text, work, at, h.more - 1, h.frame, h.top, name);
-    match types {
-        TypesEnd::Refused(number, place) => Step::Refused(number, place),
-        TypesEnd::At(count, end) => put_clause(text, work, h, s, name, end, count),
-    }
+    let t = type_walk::types_from(text, work, at, h.more - 1, h.frame, h.top, name)?;
+    put_clause(text, work, h, s, name, t.end, t.count)
 }
 
 // A name without arguments: the nearest variable of its definition, or a definition.
-fn plain_at(text: &[u8], work: &mut [u16], h: Walk, s: Left, name: usize, at: usize) -> Step
+fn plain_at(
+    text: &[u8],
+    work: &mut [u16],
+    h: Walk,
+    s: Left,
+    name: usize,
+    at: usize,
+) -> Result<Walk, Refusal>
     requires { (CanAtom text.now work.old h s) × ((Lexed text.now at) × ((name ≤ length text.now) × (0 < run (drop name text.now)))) }
     ensures { AtomSays text.now work.old h s (plain_entry text.now name at) result work.new }
 {
-    let v = term_parts::variables::variable_at(text, work, name, h.frame, h.top);
-    match v {
-        Look::Nowhere => put_term(text, work, h, s, name, at),
-        Look::Here(number, ty) => {
-            let made = made_nodes::leaves::variable(work, number, ty, name as u16);
-            behind_made(work, h, s, made, at)
-        }
-    }
+    let Some(v) = term_parts::variables::variable_at(text, work, name, h.frame, h.top) else {
+        return put_term(text, work, h, s, name, at);
+    };
+    let made = made_nodes::leaves::variable(work, v.number, v.ty, name as u16)?;
+    behind_atom(work, h, s, made, at)
 }
 
 // Behind a name: arguments, or none.
-fn named_at(text: &[u8], work: &mut [u16], h: Walk, s: Left, name: usize, at: usize) -> Step
+fn named_at(
+    text: &[u8],
+    work: &mut [u16],
+    h: Walk,
+    s: Left,
+    name: usize,
+    at: usize,
+) -> Result<Walk, Refusal>
     requires { (CanAtom text.now work.old h s) × ((Lexed text.now at) × ((name ≤ length text.now) × (0 < run (drop name text.now)))) }
     ensures { AtomSays text.now work.old h s (named_entry text.now name at) result work.new }
 {
@@ -119,7 +117,7 @@ pub fn atom_at(
     value: u8,
     start: usize,
     end: usize,
-) -> Step
+) -> Result<Walk, Refusal>
     requires { (CanAtom text.now work.old h (left_here h place flag)) × Looks text.now h.at (record { kind = kind; value = value; start = start; end = end }) }
     ensures { AtomSays text.now work.old h (left_here h place flag) (atom_entry text.now h.at) result work.new }
 {
@@ -130,24 +128,24 @@ pub fn atom_at(
         return crate::ask(work, h, l, h.frame, h.top, h.waiting, end);
     }
     if kind == words::PART {
-        let made = made_nodes::leaves::part(work, value as u16, start as u16);
-        return behind_made(work, h, s, made, end);
+        let made = made_nodes::leaves::part(work, value as u16, start as u16)?;
+        return behind_atom(work, h, s, made, end);
     }
     if kind == words::NAME {
         return named_at(text, work, h, s, start, end);
     }
-    Step::Refused(32, start)
+    Err(Reason::OtherWordDue.at(start))
 }
 
 // Behind the function of an application: one more atom, or no more.
-pub fn application_from(text: &[u8], work: &mut [u16], h: Walk) -> Step
+pub fn application_from(text: &[u8], work: &mut [u16], h: Walk) -> Result<Walk, Refusal>
     requires { CanApplication text.now work.old h }
     ensures { ApplicationSays text.now work.old h result work.new }
 {
     let sub = h.sub;
     let w = looks::atom_word(text, work, h.at);
     if w.kind == 0 {
-        return crate::done(h, MadeTerm::At(sub), h.at);
+        return Ok(crate::done(h, sub, h.at));
     }
     atom_at(text, work, h, h.place, 1, w.kind, w.value, w.start, w.end)
 }

@@ -8,11 +8,11 @@ ghost use Rattle.term_parts.specs.Names.{NamesStand, spaced};
 ghost use Rattle.term_walk.specs.Looks.{ReadableFrom};
 ghost use Rattle.term_walk.specs.Steps.{CanEnter, EnterSays, CanBound, CanNames, NameStands, ListStands, Opens, bound_entry, typed_entry, pair_bound_entry, pair_typed_entry, pair_entry, function_entry, fix_bound_entry, fix_typed_entry, fix_entry, value_entry, values_entry, names_entry, let_entry};
 
-use crate::{Step, Walk, lists, looks};
+use crate::{Walk, lists, looks};
+use answers::{Reason, Refusal};
 use scopes::entries;
 use term_parts::{bound, names};
 use walk_levels::Level;
-use walks::TypeEnd;
 
 const ROUND: u8 = 11;
 
@@ -32,12 +32,12 @@ fn bind_function(
     count: usize,
     ty: u16,
     at: usize,
-) -> Step
+) -> Result<Walk, Refusal>
     requires { (CanBound text.now work.old h ty at) × (NamesStand name_at spaced text.now from count × (count < 65536)) }
     ensures { EnterSays text.now work.old h (bound_entry text.now place from count ty at) result work.new }
 {
     if !entries::has_room(h.top, count) {
-        return Step::Refused(34, place);
+        return Err(Reason::TextLimit.at(place));
     }
     let dot = looks::look(text, at);
     bound::bind_names(text, work, from, count, h.top, ty);
@@ -63,16 +63,13 @@ fn function_type(
     from: usize,
     count: usize,
     at: usize,
-) -> Step
+) -> Result<Walk, Refusal>
     requires { (CanEnter text.now work.old h) × (ReadableFrom text.now at × (NamesStand name_at spaced text.now from count × (count < 65536))) }
     ensures { EnterSays text.now work.old h (typed_entry text.now place from count at) result work.new }
 {
     let colon = looks::look(text, at);
-    let t = looks::type_behind(text, work, colon.end, h.more - 1, h.frame, h.top);
-    match t {
-        TypeEnd::Refused(number, place) => Step::Refused(number, place),
-        TypeEnd::At(ty, end) => bind_function(text, work, h, place, from, count, ty, end),
-    }
+    let t = looks::type_behind(text, work, colon.end, h.more - 1, h.frame, h.top)?;
+    bind_function(text, work, h, place, from, count, t.ty, t.end)
 }
 
 // ---- functions whose variable is taken apart
@@ -88,12 +85,12 @@ fn bind_pair(
     count: usize,
     ty: u16,
     at: usize,
-) -> Step
+) -> Result<Walk, Refusal>
     requires { (CanBound text.now work.old h ty at) × ListStands text.now round from count }
     ensures { EnterSays text.now work.old h (pair_bound_entry text.now place round from count ty at) result work.new }
 {
     if !entries::has_room(h.top, 1) {
-        return Step::Refused(34, place);
+        return Err(Reason::TextLimit.at(place));
     }
     bound::bind_name(work, h.top, round, ty);
     let l = Level {
@@ -120,15 +117,12 @@ fn pair_type(
     from: usize,
     count: usize,
     at: usize,
-) -> Step
+) -> Result<Walk, Refusal>
     requires { (CanEnter text.now work.old h) × (ReadableFrom text.now at × ListStands text.now round from count) }
     ensures { EnterSays text.now work.old h (pair_typed_entry text.now place round from count at) result work.new }
 {
-    let t = looks::type_behind(text, work, at, h.more - 1, h.frame, h.top);
-    match t {
-        TypeEnd::Refused(number, place) => Step::Refused(number, place),
-        TypeEnd::At(ty, end) => bind_pair(text, work, h, place, round, from, count, ty, end),
-    }
+    let t = looks::type_behind(text, work, at, h.more - 1, h.frame, h.top)?;
+    bind_pair(text, work, h, place, round, from, count, t.ty, t.end)
 }
 
 // Behind `fun (`, whose parenthesis is the first word from an offset on: a list.
@@ -140,23 +134,23 @@ fn pair_from(
     round: usize,
     start: usize,
     at: usize,
-) -> Step
+) -> Result<Walk, Refusal>
     requires { (CanEnter text.now work.old h) × (Opens text.now round start at) }
     ensures { EnterSays text.now work.old h (pair_entry text.now place start) result work.new }
 {
-    let x = names::count_listed(text, at);
-    if x.number != 0 {
-        return Step::Refused(x.number, x.end);
-    }
-    let c = lists::closed(text, x.end, COLON);
-    if c.number != 0 {
-        return Step::Refused(c.number, c.at);
-    }
-    pair_type(text, work, h, place, round, at, x.count, c.at)
+    let x = names::count_listed(text, at)?;
+    let behind = lists::closed(text, x.end, COLON)?;
+    pair_type(text, work, h, place, round, at, x.count, behind)
 }
 
 // Behind `fun`: names, or names in parentheses.
-pub fn function_from(text: &[u8], work: &mut [u16], h: Walk, start: usize, at: usize) -> Step
+pub fn function_from(
+    text: &[u8],
+    work: &mut [u16],
+    h: Walk,
+    start: usize,
+    at: usize,
+) -> Result<Walk, Refusal>
     requires { (CanEnter text.now work.old h) × (CanNames text.now h start at) }
     ensures { EnterSays text.now work.old h (function_entry text.now h.at) result work.new }
 {
@@ -164,10 +158,7 @@ pub fn function_from(text: &[u8], work: &mut [u16], h: Walk, start: usize, at: u
     if w.kind == ROUND {
         return pair_from(text, work, h, start, w.start, at, w.end);
     }
-    let x = names::count_names(text, at);
-    if x.number != 0 {
-        return Step::Refused(x.number, x.end);
-    }
+    let x = names::count_names(text, at)?;
     function_type(text, work, h, start, at, x.count, x.end)
 }
 
@@ -182,12 +173,12 @@ fn bind_fix(
     name: usize,
     ty: u16,
     at: usize,
-) -> Step
+) -> Result<Walk, Refusal>
     requires { (CanBound text.now work.old h ty at) × (NameStands text.now name) }
     ensures { EnterSays text.now work.old h (fix_bound_entry text.now place name ty at) result work.new }
 {
     if !entries::has_room(h.top, 1) {
-        return Step::Refused(34, place);
+        return Err(Reason::TextLimit.at(place));
     }
     let dot = looks::look(text, at);
     bound::bind_name(work, h.top, name, ty);
@@ -205,34 +196,48 @@ fn bind_fix(
 }
 
 // Behind a fixed point's name: a colon, and its type.
-fn fix_type(text: &[u8], work: &mut [u16], h: Walk, place: usize, name: usize, at: usize) -> Step
+fn fix_type(
+    text: &[u8],
+    work: &mut [u16],
+    h: Walk,
+    place: usize,
+    name: usize,
+    at: usize,
+) -> Result<Walk, Refusal>
     requires { (CanEnter text.now work.old h) × (ReadableFrom text.now at × (NameStands text.now name)) }
     ensures { EnterSays text.now work.old h (fix_typed_entry text.now place name at) result work.new }
 {
     let colon = looks::look(text, at);
-    let t = looks::type_behind(text, work, colon.end, h.more - 1, h.frame, h.top);
-    match t {
-        TypeEnd::Refused(number, place) => Step::Refused(number, place),
-        TypeEnd::At(ty, end) => bind_fix(text, work, h, place, name, ty, end),
-    }
+    let t = looks::type_behind(text, work, colon.end, h.more - 1, h.frame, h.top)?;
+    bind_fix(text, work, h, place, name, t.ty, t.end)
 }
 
 // Behind `fix`: a name.
-pub fn fix_from(text: &[u8], work: &mut [u16], h: Walk, start: usize, at: usize) -> Step
+pub fn fix_from(
+    text: &[u8],
+    work: &mut [u16],
+    h: Walk,
+    start: usize,
+    at: usize,
+) -> Result<Walk, Refusal>
     requires { (CanEnter text.now work.old h) × (CanNames text.now h start at) }
     ensures { EnterSays text.now work.old h (fix_entry text.now h.at) result work.new }
 {
-    let x = names::name_at(text, at);
-    if x.number != 0 {
-        return Step::Refused(x.number, x.place);
-    }
+    let x = names::name_at(text, at)?;
     fix_type(text, work, h, start, x.place, x.end)
 }
 
 // ---- names for terms
 
 // The value of a name is wanted behind an equals sign.
-fn ask_value(text: &[u8], work: &mut [u16], h: Walk, place: usize, name: usize, at: usize) -> Step
+fn ask_value(
+    text: &[u8],
+    work: &mut [u16],
+    h: Walk,
+    place: usize,
+    name: usize,
+    at: usize,
+) -> Result<Walk, Refusal>
     requires { (CanEnter text.now work.old h) × (ReadableFrom text.now at × ((NameStands text.now name) × (place ≤ length text.now))) }
     ensures { EnterSays text.now work.old h (value_entry text.now place name at) result work.new }
 {
@@ -259,7 +264,7 @@ fn ask_values(
     from: usize,
     count: usize,
     at: usize,
-) -> Step
+) -> Result<Walk, Refusal>
     requires { (CanEnter text.now work.old h) × (ReadableFrom text.now at × ((place ≤ length text.now) × (NamesStand head_at behind text.now from count × (count < 65536)))) }
     ensures { EnterSays text.now work.old h (values_entry text.now place from count at) result work.new }
 {
@@ -277,23 +282,30 @@ fn ask_values(
 }
 
 // Behind `let (`, whose parenthesis is the first word from an offset on: a list.
-fn names_from(text: &[u8], work: &mut [u16], h: Walk, place: usize, start: usize, at: usize) -> Step
+fn names_from(
+    text: &[u8],
+    work: &mut [u16],
+    h: Walk,
+    place: usize,
+    start: usize,
+    at: usize,
+) -> Result<Walk, Refusal>
     requires { (CanEnter text.now work.old h) × ((place ≤ length text.now) × ((Lexed text.now at) × ((behind (from text.now start) ≡ from text.now at) × (length (from text.now at) < length (from text.now start))))) }
     ensures { EnterSays text.now work.old h (names_entry text.now place start) result work.new }
 {
-    let x = names::count_listed(text, at);
-    if x.number != 0 {
-        return Step::Refused(x.number, x.end);
-    }
-    let c = lists::closed(text, x.end, EQUALS);
-    if c.number != 0 {
-        return Step::Refused(c.number, c.at);
-    }
-    ask_values(text, work, h, place, at, x.count, c.at)
+    let x = names::count_listed(text, at)?;
+    let behind = lists::closed(text, x.end, EQUALS)?;
+    ask_values(text, work, h, place, at, x.count, behind)
 }
 
 // Behind `let` at a place: a name, or names in parentheses.
-pub fn let_from(text: &[u8], work: &mut [u16], h: Walk, place: usize, at: usize) -> Step
+pub fn let_from(
+    text: &[u8],
+    work: &mut [u16],
+    h: Walk,
+    place: usize,
+    at: usize,
+) -> Result<Walk, Refusal>
     requires { (CanEnter text.now work.old h) × ((place ≤ length text.now) × (Lexed text.now at)) }
     ensures { EnterSays text.now work.old h (let_entry text.now place at) result work.new }
 {
@@ -301,9 +313,6 @@ pub fn let_from(text: &[u8], work: &mut [u16], h: Walk, place: usize, at: usize)
     if w.kind == ROUND {
         return names_from(text, work, h, place, at, w.end);
     }
-    let x = names::name_at(text, at);
-    if x.number != 0 {
-        return Step::Refused(x.number, x.place);
-    }
+    let x = names::name_at(text, at)?;
     ask_value(text, work, h, place, x.place, x.end)
 }

@@ -1,14 +1,15 @@
 // What a level does with the term that it waited for; `h` is the level, with the offset behind the term.
 ghost use Rattle.std.specs.Prelude.{◌≡◌, ◌+◌, ◌≤◌, ◌<◌, leb};
 ghost use Rattle.notation_calculus.specs.Making.{most_entries};
+ghost use Rattle.term_walk.specs.declared.Phase.{Phase};
 ghost use Rattle.term_walk.specs.Holding.{left_by};
 ghost use Rattle.term_walk.specs.Steps.{CanLeave, LeaveSays, CanMoveTerm, StepSays};
 
-use crate::{Left, Step, Walk, atoms, lists, looks};
+use crate::{Left, Walk, atoms, lists, looks};
+use answers::{Reason, Refusal};
 use made_nodes::Sub;
 use made_types::wide;
 use scopes::entries;
-use term_parts::apart::ApartEnd;
 use term_parts::halves::Half;
 use term_parts::{apart, bound, halves, joined};
 use walk_levels::Level;
@@ -32,26 +33,26 @@ fn left_of(l: Level) -> Left
 
 // ---- binders
 
-fn leave_function(text: &[u8], work: &mut [u16], h: Walk, l: Level, x: Sub) -> Step
+fn leave_function(text: &[u8], work: &mut [u16], h: Walk, l: Level, x: Sub) -> Result<Walk, Refusal>
     requires { (CanLeave text.now work.old h l x) × (l.form ≡ 1) }
     ensures { LeaveSays text.now work.old h l x result work.new }
 {
-    let made = made_nodes::binders::functions(work, h.top as u16, l.count, l.ty, x);
-    crate::done(h, made, h.at)
+    let made = made_nodes::binders::functions(work, h.top as u16, l.count, l.ty, x)?;
+    Ok(crate::done(h, made, h.at))
 }
 
-fn leave_fix(text: &[u8], work: &mut [u16], h: Walk, l: Level, x: Sub) -> Step
+fn leave_fix(text: &[u8], work: &mut [u16], h: Walk, l: Level, x: Sub) -> Result<Walk, Refusal>
     requires { (CanLeave text.now work.old h l x) × (l.form ≡ 2) }
     ensures { LeaveSays text.now work.old h l x result work.new }
 {
-    let made = made_nodes::binders::fixed_point(work, l.place, l.ty, x);
-    crate::done(h, made, h.at)
+    let made = made_nodes::binders::fixed_point(work, l.place, l.ty, x)?;
+    Ok(crate::done(h, made, h.at))
 }
 
 // ---- names for terms
 
 // The name is bound to its value, and the body is wanted behind `in`.
-fn bind_value(text: &[u8], work: &mut [u16], h: Walk, l: Level, x: Sub) -> Step
+fn bind_value(text: &[u8], work: &mut [u16], h: Walk, l: Level, x: Sub) -> Result<Walk, Refusal>
     requires { (CanLeave text.now work.old h l x) × ((l.form ≡ 3) × (h.top + 1 ≤ most_entries)) }
     ensures { LeaveSays text.now work.old h l x result work.new }
 {
@@ -70,39 +71,34 @@ fn bind_value(text: &[u8], work: &mut [u16], h: Walk, l: Level, x: Sub) -> Step
     crate::ask(work, h, after, h.frame, h.top + 1, h.waiting, within.end)
 }
 
-fn leave_value(text: &[u8], work: &mut [u16], h: Walk, l: Level, x: Sub) -> Step
+fn leave_value(text: &[u8], work: &mut [u16], h: Walk, l: Level, x: Sub) -> Result<Walk, Refusal>
     requires { (CanLeave text.now work.old h l x) × (l.form ≡ 3) }
     ensures { LeaveSays text.now work.old h l x result work.new }
 {
     if entries::has_room(h.top, 1) {
         return bind_value(text, work, h, l, x);
     }
-    Step::Refused(34, wide(l.place))
+    Err(Reason::TextLimit.at(wide(l.place)))
 }
 
 // The value is taken apart and its names are bound, for the body; the next list in this one is taken apart there.
-fn take_apart(text: &[u8], work: &mut [u16], h: Walk, l: Level, x: Sub) -> Step
+fn take_apart(text: &[u8], work: &mut [u16], h: Walk, l: Level, x: Sub) -> Result<Walk, Refusal>
     requires { (CanLeave text.now work.old h l x) × ((l.form ≡ 4) × (h.top + (l.count + l.count) ≤ most_entries)) }
     ensures { LeaveSays text.now work.old h l x result work.new }
 {
-    let a = apart::apart(text, work, wide(l.next), wide(l.count), h.top, h.waiting, x);
-    match a {
-        ApartEnd::Refused(number, place) => Step::Refused(number, place),
-        ApartEnd::At(top, waiting) => {
-            let after = Level {
-                form: crate::UNDER_NAMES,
-                flag: 0,
-                place: 0,
-                count: (waiting - h.waiting) as u16,
-                node: 0,
-                ty: 0,
-                deep: 0,
-                next: 0,
-            };
-            let n = crate::below(work, h, after, h.frame, top, waiting, h.at);
-            lists::under_lists(text, work, n, wide(l.next), h.at)
-        }
-    }
+    let a = apart::apart(text, work, wide(l.next), wide(l.count), h.top, h.waiting, x)?;
+    let after = Level {
+        form: crate::UNDER_NAMES,
+        flag: 0,
+        place: 0,
+        count: (a.waiting - h.waiting) as u16,
+        node: 0,
+        ty: 0,
+        deep: 0,
+        next: 0,
+    };
+    let n = crate::below(work, h, after, h.frame, a.top, a.waiting, h.at);
+    lists::under_lists(text, work, n, wide(l.next), h.at)
 }
 
 // There is room for two entries a name.
@@ -113,7 +109,7 @@ fn room_for_pairs(top: usize, count: usize) -> bool
     top + (count + count) <= 1024
 }
 
-fn leave_values(text: &[u8], work: &mut [u16], h: Walk, l: Level, x: Sub) -> Step
+fn leave_values(text: &[u8], work: &mut [u16], h: Walk, l: Level, x: Sub) -> Result<Walk, Refusal>
     requires { (CanLeave text.now work.old h l x) × (l.form ≡ 4) }
     ensures { LeaveSays text.now work.old h l x result work.new }
 {
@@ -121,10 +117,10 @@ fn leave_values(text: &[u8], work: &mut [u16], h: Walk, l: Level, x: Sub) -> Ste
     if room_for_pairs(h.top, count) {
         return take_apart(text, work, h, l, x);
     }
-    Step::Refused(34, wide(l.place))
+    Err(Reason::TextLimit.at(wide(l.place)))
 }
 
-fn leave_name(text: &[u8], work: &mut [u16], h: Walk, l: Level, x: Sub) -> Step
+fn leave_name(text: &[u8], work: &mut [u16], h: Walk, l: Level, x: Sub) -> Result<Walk, Refusal>
     requires { (CanLeave text.now work.old h l x) × (l.form ≡ 5) }
     ensures { LeaveSays text.now work.old h l x result work.new }
 {
@@ -133,29 +129,29 @@ fn leave_name(text: &[u8], work: &mut [u16], h: Walk, l: Level, x: Sub) -> Step
         ty: l.ty,
         deep: l.deep,
     };
-    let made = made_nodes::binders::naming(work, l.place, v, x);
-    crate::done(h, made, h.at)
+    let made = made_nodes::binders::naming(work, l.place, v, x)?;
+    Ok(crate::done(h, made, h.at))
 }
 
-fn leave_names(text: &[u8], work: &mut [u16], h: Walk, l: Level, x: Sub) -> Step
+fn leave_names(text: &[u8], work: &mut [u16], h: Walk, l: Level, x: Sub) -> Result<Walk, Refusal>
     requires { (CanLeave text.now work.old h l x) × (l.form ≡ 6) }
     ensures { LeaveSays text.now work.old h l x result work.new }
 {
-    let made = joined::projections(work, h.waiting, wide(l.count), x);
-    crate::done(h, made, h.at)
+    let made = joined::projections(work, h.waiting, wide(l.count), x)?;
+    Ok(crate::done(h, made, h.at))
 }
 
 // ---- tuples
 
 // Behind an element: a comma, before which it waits, and the next is wanted; or the closing parenthesis, and the tuple is an atom.
-fn leave_element(text: &[u8], work: &mut [u16], h: Walk, l: Level, x: Sub) -> Step
+fn leave_element(text: &[u8], work: &mut [u16], h: Walk, l: Level, x: Sub) -> Result<Walk, Refusal>
     requires { (CanLeave text.now work.old h l x) × (l.form ≡ 7) }
     ensures { LeaveSays text.now work.old h l x result work.new }
 {
     let w = looks::look(text, h.at);
     if w.kind != COMMA {
-        let made = joined::pairs(work, h.waiting, wide(l.count), x);
-        return atoms::behind_made(work, h, left_of(l), made, w.end);
+        let made = joined::pairs(work, h.waiting, wide(l.count), x)?;
+        return atoms::behind_atom(work, h, left_of(l), made, w.end);
     }
     let half = Half {
         node: x.node,
@@ -169,7 +165,13 @@ fn leave_element(text: &[u8], work: &mut [u16], h: Walk, l: Level, x: Sub) -> St
     crate::ask(work, h, after, h.frame, h.top, i + 1, w.end)
 }
 
-fn leave_definition(text: &[u8], work: &mut [u16], h: Walk, l: Level, x: Sub) -> Step
+fn leave_definition(
+    text: &[u8],
+    work: &mut [u16],
+    h: Walk,
+    l: Level,
+    x: Sub,
+) -> Result<Walk, Refusal>
     requires { (CanLeave text.now work.old h l x) × (l.form ≡ 8) }
     ensures { LeaveSays text.now work.old h l x result work.new }
 {
@@ -178,7 +180,7 @@ fn leave_definition(text: &[u8], work: &mut [u16], h: Walk, l: Level, x: Sub) ->
 
 // ---- every form
 
-fn leave_let(text: &[u8], work: &mut [u16], h: Walk, l: Level, x: Sub) -> Step
+fn leave_let(text: &[u8], work: &mut [u16], h: Walk, l: Level, x: Sub) -> Result<Walk, Refusal>
     requires { (CanLeave text.now work.old h l x) × ((3 ≤ l.form) × (l.form ≤ 6)) }
     ensures { LeaveSays text.now work.old h l x result work.new }
 {
@@ -194,7 +196,7 @@ fn leave_let(text: &[u8], work: &mut [u16], h: Walk, l: Level, x: Sub) -> Step
     leave_names(text, work, h, l, x)
 }
 
-fn leave_by(text: &[u8], work: &mut [u16], h: Walk, l: Level, x: Sub) -> Step
+fn leave_by(text: &[u8], work: &mut [u16], h: Walk, l: Level, x: Sub) -> Result<Walk, Refusal>
     requires { CanLeave text.now work.old h l x }
     ensures { LeaveSays text.now work.old h l x result work.new }
 {
@@ -214,8 +216,8 @@ fn leave_by(text: &[u8], work: &mut [u16], h: Walk, l: Level, x: Sub) -> Step
 }
 
 // The term came that the nearest level waited for.
-pub fn leave(text: &[u8], work: &mut [u16], n: Walk) -> Step
-    requires { (CanMoveTerm text.now work.old n) × (n.phase ≡ 1) }
+pub fn leave(text: &[u8], work: &mut [u16], n: Walk) -> Result<Walk, Refusal>
+    requires { (CanMoveTerm text.now work.old n) × (n.phase ≡ Phase.Came) }
     ensures { StepSays text.now work.old n result work.new }
 {
     let sub = n.sub;
@@ -223,7 +225,7 @@ pub fn leave(text: &[u8], work: &mut [u16], n: Walk) -> Step
     let l = walk_levels::level_at(work, m as u16);
     let s = walk_levels::scope_at(work, m as u16);
     let h = Walk {
-        phase: crate::CAME,
+        phase: crate::Phase::Came,
         more: m,
         frame: wide(s.frame),
         top: wide(s.top),

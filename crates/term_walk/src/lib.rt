@@ -2,9 +2,10 @@
 #![tactic(auto)]
 
 ghost use Rattle.std.specs.Prelude.{◌≡◌};
-ghost use Rattle.term_walk.specs.Steps.{nothing_sub, walk_at, part_level, done_step, applies_step, CanAskTerm, Below, Asks};
+ghost use Rattle.term_walk.specs.Steps.{nothing_sub, walk_at, part_level, done_walk, applying_walk, CanAskTerm, Below, Asks};
 
-use made_nodes::{MadeTerm, Sub};
+use answers::Refusal;
+use made_nodes::Sub;
 use walk_levels::{Around, Level};
 
 pub mod atoms;
@@ -14,22 +15,21 @@ pub mod lists;
 pub mod looks;
 pub mod rounds;
 
-// ---- the state, as numbers
+// ---- the state
 
-// A term is wanted.
-pub const WANTED: u8 = 0;
+// What the walk does next: a term is wanted; a term came; or a term is the function of an application, which may go on.
+#[derive(Clone, Copy, PartialEq, Eq)]
+pub enum Phase {
+    Wanted,
+    Came,
+    Applying,
+}
 
-// A term came.
-pub const CAME: u8 = 1;
-
-// A term is the function of an application, which may go on.
-pub const APPLYING: u8 = 2;
-
-// Which of the three; how many levels there may be from this one on; the frame of the scope, its entries, and how many terms wait; where the
+// Its phase; how many levels there may be from this one on; the frame of the scope, its entries, and how many terms wait; where the
 // application begins; the term that came or the function; and the offset of the next word.
 #[derive(Clone, Copy)]
 pub struct Walk {
-    pub phase: u8,
+    pub phase: Phase,
     pub more: usize,
     pub frame: usize,
     pub top: usize,
@@ -45,12 +45,6 @@ pub struct Left {
     pub place: u16,
     pub flag: u16,
     pub sub: Sub,
-}
-
-#[derive(Clone, Copy)]
-pub enum Step {
-    Going(Walk),
-    Refused(u8, usize),
 }
 
 // ---- the forms of levels
@@ -120,7 +114,7 @@ pub fn below(
     };
     walk_levels::push(work, h.more as u16, l, s);
     Walk {
-        phase: WANTED,
+        phase: Phase::Wanted,
         more: h.more - 1,
         frame,
         top,
@@ -136,7 +130,7 @@ pub fn wanted(n: Walk, at: usize) -> Walk
     ensures { result ≡ walk_at n at }
 {
     Walk {
-        phase: WANTED,
+        phase: Phase::Wanted,
         more: n.more,
         frame: n.frame,
         top: n.top,
@@ -155,47 +149,41 @@ pub fn ask(
     top: usize,
     waiting: usize,
     at: usize,
-) -> Step
+) -> Result<Walk, Refusal>
     requires { CanAskTerm work.old h }
     ensures { Asks work.old h l frame top waiting at result work.new }
 {
-    Step::Going(below(work, h, l, frame, top, waiting, at))
+    Ok(below(work, h, l, frame, top, waiting, at))
 }
 
-// The level is done with a term, if it could be made.
-pub fn done(h: Walk, made: MadeTerm, at: usize) -> Step
-    ensures { result ≡ done_step h made at }
+// The level is done with a term.
+pub fn done(h: Walk, sub: Sub, at: usize) -> Walk
+    ensures { result ≡ done_walk h sub at }
 {
-    match made {
-        MadeTerm::Refused(number, place) => Step::Refused(number, made_types::wide(place)),
-        MadeTerm::At(sub) => Step::Going(Walk {
-            phase: CAME,
-            more: h.more,
-            frame: h.frame,
-            top: h.top,
-            waiting: h.waiting,
-            place: 0,
-            sub,
-            at,
-        }),
+    Walk {
+        phase: Phase::Came,
+        more: h.more,
+        frame: h.frame,
+        top: h.top,
+        waiting: h.waiting,
+        place: 0,
+        sub,
+        at,
     }
 }
 
-// A term, if it could be made, is the function of the application that begins at a place.
-pub fn applies(h: Walk, begins: u16, made: MadeTerm, at: usize) -> Step
-    ensures { result ≡ applies_step h begins made at }
+// A term is the function of the application that begins at a place.
+pub fn applies(h: Walk, begins: u16, sub: Sub, at: usize) -> Walk
+    ensures { result ≡ applying_walk h begins sub at }
 {
-    match made {
-        MadeTerm::Refused(number, place) => Step::Refused(number, made_types::wide(place)),
-        MadeTerm::At(sub) => Step::Going(Walk {
-            phase: APPLYING,
-            more: h.more,
-            frame: h.frame,
-            top: h.top,
-            waiting: h.waiting,
-            place: begins,
-            sub,
-            at,
-        }),
+    Walk {
+        phase: Phase::Applying,
+        more: h.more,
+        frame: h.frame,
+        top: h.top,
+        waiting: h.waiting,
+        place: begins,
+        sub,
+        at,
     }
 }

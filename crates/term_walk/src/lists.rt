@@ -5,25 +5,21 @@ ghost use Rattle.grammar.specs.Ends.{Ends};
 ghost use Rattle.term_walk.specs.Looks.{ReadableFrom};
 ghost use Rattle.term_walk.specs.Steps.{closed_by, CanBound, EnterSays, ListStands, list_made_entry, CanBody, BodySays, list_in_body, under_lists_body};
 
-use crate::{Step, Walk, looks};
+use crate::{Walk, looks};
+use answers::{Reason, Refusal};
 use grammar::steps;
-use grammar::steps::End;
-use term_parts::variables::Look;
 use term_parts::{names, variables};
 use walk_levels::Level;
 
 const END_ROUND: u8 = 12;
 
 // Behind the items of a list: the closing parenthesis, and the sign of a code.
-pub fn closed(text: &[u8], at: usize, sign: u8) -> End
+pub fn closed(text: &[u8], at: usize, sign: u8) -> Result<usize, Refusal>
     requires { (Lexed text.now at) × (0 < sign) }
     ensures { Ends text.now (length (from text.now at)) (closed_by sign (from text.now at)) result }
 {
-    let round = steps::expect(text, at, END_ROUND);
-    if round.number != 0 {
-        return round;
-    }
-    steps::expect(text, round.at, sign)
+    let behind = steps::expect(text, at, END_ROUND)?;
+    steps::expect(text, behind, sign)
 }
 
 // The variable of a list is made, by its number, in the body that the walk is at; the items of the list wait for it.
@@ -37,12 +33,12 @@ fn list_made(
     number: u16,
     ty: u16,
     at: usize,
-) -> Step
+) -> Result<Walk, Refusal>
     requires { (CanBound text.now work.old h ty at) × ListStands text.now round from count }
     ensures { EnterSays text.now work.old h (list_made_entry text.now round from count number ty at) result work.new }
 {
     if h.more == 1 {
-        return Step::Refused(34, round);
+        return Err(Reason::TextLimit.at(round));
     }
     let l = Level {
         form: crate::VALUE_OF_NAMES,
@@ -55,8 +51,8 @@ fn list_made(
         next: from as u16,
     };
     let n = crate::below(work, h, l, h.frame, h.top, h.waiting, at);
-    let made = made_nodes::leaves::variable(work, number, ty, round as u16);
-    crate::done(n, made, at)
+    let made = made_nodes::leaves::variable(work, number, ty, round as u16)?;
+    Ok(crate::done(n, made, at))
 }
 
 // A list is taken apart in the body that the walk is at: it has a level of its own, and its variable stands in the scope.
@@ -68,33 +64,34 @@ pub fn list_in(
     from: usize,
     count: usize,
     at: usize,
-) -> Step
+) -> Result<Walk, Refusal>
     requires { (CanBody text.now work.old n) × (ReadableFrom text.now at × ListStands text.now round from count) }
     ensures { BodySays text.now work.old n (list_in_body text.now round from count at) result work.new }
 {
     if n.more == 0 {
-        return Step::Refused(34, round);
+        return Err(Reason::TextLimit.at(round));
     }
-    let v = variables::list_at(work, round, n.frame, n.top);
-    match v {
-        Look::Nowhere => Step::Refused(32, round),
-        Look::Here(number, ty) => list_made(text, work, n, round, from, count, number, ty, at),
-    }
+    let Some(v) = variables::list_at(work, round, n.frame, n.top) else {
+        return Err(Reason::OtherWordDue.at(round));
+    };
+    list_made(text, work, n, round, from, count, v.number, v.ty, at)
 }
 
 // The body of names that were bound, before `in` or a dot: the next list of those that begin at an offset is taken apart in it, or it is wanted.
-pub fn under_lists(text: &[u8], work: &mut [u16], n: Walk, next: usize, at: usize) -> Step
+pub fn under_lists(
+    text: &[u8],
+    work: &mut [u16],
+    n: Walk,
+    next: usize,
+    at: usize,
+) -> Result<Walk, Refusal>
     requires { (CanBody text.now work.old n) × (ReadableFrom text.now at × Lexed text.now next) }
     ensures { BodySays text.now work.old n (under_lists_body text.now next at) result work.new }
 {
-    let l = names::next_list(text, next);
-    if !l.found {
+    let Some(l) = names::next_list(text, next) else {
         let within = looks::look(text, at);
-        return Step::Going(crate::wanted(n, within.end));
-    }
-    let x = names::count_listed(text, l.end);
-    if x.number != 0 {
-        return Step::Refused(x.number, x.end);
-    }
+        return Ok(crate::wanted(n, within.end));
+    };
+    let x = names::count_listed(text, l.end)?;
     list_in(text, work, n, l.place, l.end, x.count, at)
 }

@@ -3,6 +3,7 @@ ghost use Rattle.std.specs.Prelude.{◌≡◌, ◌<◌, length};
 ghost use Rattle.term_walk.specs.Looks.{ReadableFrom, HeadsHeld, Looks, AtomWord};
 ghost use Rattle.term_walk.specs.Steps.{CanBehind, BehindType};
 
+use answers::{Reason, Refusal};
 use walks::TypeEnd;
 use words::Word;
 
@@ -39,12 +40,12 @@ pub fn type_behind(
     more: usize,
     frame: usize,
     top: usize,
-) -> TypeEnd
+) -> Result<TypeEnd, Refusal>
     requires { CanBehind text.now work.old at more frame top }
     ensures { BehindType text.now work.old at more frame top result work.new }
 {
     if text.len() < at {
-        return TypeEnd::Refused(32, 0);
+        return Err(Reason::OtherWordDue.at(0));
     }
     type_walk::type_from(text, work, at, more, frame, top)
 }
@@ -69,8 +70,7 @@ fn opens(c: u8) -> bool {
 // Whether the table is worth a look: behind the next few bytes there may stand much that nobody pays for. Nothing is said of the answer, since either is
 // right: a short head is read faster than it is found.
 fn far(text: &[u8], start: usize) -> bool {
-    let mut at = start;
-    while at < text.len() {
+    for at in start..text.len() {
         let c = text[at];
         if stops(c) {
             return opens(c);
@@ -78,7 +78,6 @@ fn far(text: &[u8], start: usize) -> bool {
         if 24 <= at - start {
             return true;
         }
-        at = at + 1;
     }
     false
 }

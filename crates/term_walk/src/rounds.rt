@@ -1,10 +1,12 @@
 // The loop over steps.
 ghost use Rattle.std.specs.Prelude.{◌≡◌};
 ghost use Rattle.walks.specs.Says.{CanTerm, TermSays};
+ghost use Rattle.term_walk.specs.declared.Phase.{Phase};
 ghost use Rattle.term_walk.specs.Steps.{CanMoveTerm, StepSays, Finished};
 
-use crate::{Step, Walk, atoms, binders, leaving, looks};
-use walks::TermEnd;
+use crate::{Phase, Walk, atoms, binders, leaving, looks};
+use answers::{Reason, Refusal};
+use made_nodes::Sub;
 
 const FUN: u8 = 1;
 
@@ -13,13 +15,13 @@ const FIX: u8 = 2;
 const LET: u8 = 3;
 
 // A term is wanted at the offset.
-fn enter(text: &[u8], work: &mut [u16], h: Walk) -> Step
-    requires { (CanMoveTerm text.now work.old h) × (h.phase ≡ 0) }
+fn enter(text: &[u8], work: &mut [u16], h: Walk) -> Result<Walk, Refusal>
+    requires { (CanMoveTerm text.now work.old h) × (h.phase ≡ Phase.Wanted) }
     ensures { StepSays text.now work.old h result work.new }
 {
     let w = looks::look(text, h.at);
     if h.more == 0 {
-        return Step::Refused(34, w.start);
+        return Err(Reason::TextLimit.at(w.start));
     }
     if w.kind == FUN {
         return binders::function_from(text, work, h, w.start, w.end);
@@ -44,27 +46,25 @@ fn enter(text: &[u8], work: &mut [u16], h: Walk) -> Step
 }
 
 // One step.
-fn step(text: &[u8], work: &mut [u16], n: Walk) -> Step
+fn step(text: &[u8], work: &mut [u16], n: Walk) -> Result<Walk, Refusal>
     requires { CanMoveTerm text.now work.old n }
     ensures { StepSays text.now work.old n result work.new }
 {
-    if n.phase == crate::WANTED {
-        return enter(text, work, n);
+    match n.phase {
+        Phase::Wanted => enter(text, work, n),
+        Phase::Came => leaving::leave(text, work, n),
+        Phase::Applying => atoms::application_from(text, work, n),
     }
-    if n.phase == crate::CAME {
-        return leaving::leave(text, work, n);
-    }
-    atoms::application_from(text, work, n)
 }
 
 // A term came at the level that the walk began with.
 fn finished(n: Walk, more: usize) -> bool
     ensures { Finished n more result }
 {
-    if n.phase == crate::CAME {
-        return n.more == more;
+    match n.phase {
+        Phase::Came => n.more == more,
+        Phase::Wanted | Phase::Applying => false,
     }
-    false
 }
 
 // More steps than any walk takes: `term_start_lem`, for a text of 65,535 bytes.
@@ -78,12 +78,12 @@ pub fn term_from(
     more: usize,
     frame: usize,
     top: usize,
-) -> TermEnd
+) -> Result<Sub, Refusal>
     requires { CanTerm text.now work.old at more frame top }
     ensures { TermSays text.now work.old at more frame top result work.new }
 {
     let mut n = Walk {
-        phase: crate::WANTED,
+        phase: Phase::Wanted,
         more,
         frame,
         top,
@@ -92,20 +92,11 @@ pub fn term_from(
         sub: crate::nothing(),
         at,
     };
-    let mut left = STEPS;
-    while 0 < left {
+    for _ in 0..STEPS {
         if finished(n, more) {
-            let sub = n.sub;
-            return TermEnd::At(sub);
+            return Ok(n.sub);
         }
-        let r = step(text, work, n);
-        match r {
-            Step::Refused(number, place) => return TermEnd::Refused(number, place),
-            Step::Going(next) => {
-                n = next;
-            }
-        }
-        left = left - 1;
+        n = step(text, work, n)?;
     }
-    TermEnd::Refused(32, 0)
+    Err(Reason::OtherWordDue.at(0))
 }

@@ -6,7 +6,6 @@ use denote.Triple.Clauses.{AtExit}
 use borrow.Fn.Kinds.{Dens, res_t, ended_of}
 use Rattle.translator.proofs.SaidLaws.{SameResult, same-call}
 use Rattle.trace_calculus.specs.Lanes.{LanesCall}
-use Rattle.trace.specs.Said.{lanes_called}
 use Rattle.trace.proofs.run.Kinds as run
 use Rattle.trace.proofs.run.Reads as run-reads
 use Rattle.trace.proofs.lanes.Kinds as lanes

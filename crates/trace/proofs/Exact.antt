@@ -30,7 +30,7 @@ use Rattle.answers.proofs.WordLaws.{word_tells}
 use Rattle.translator.proofs.Places.{names_small, full-places}
 use Rattle.trace_calculus.specs.Trace.{OnRing, up_from, inputs, out_pins, ran, trace, run_call}
 use Rattle.trace_calculus.specs.Lanes.{lane, lanes_call}
-use Rattle.trace_calculus.specs.LanesPromise.{LanesAreRuns, lane_call}
+use Rattle.trace_calculus.specs.LanesPromise.{lane_call}
 use Rattle.trace_calculus.specs.Promise.{Traced, Ringless, LowestOnRing, ExactBits, Needs, OfSheet, RunPromise}
 use Rattle.trace_theorems.proofs.Lists.{in_has}
 use Rattle.trace_theorems.proofs.Sources.{has_left, has_right, has-append, has_up}

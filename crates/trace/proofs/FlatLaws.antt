@@ -31,7 +31,7 @@ use Rattle.trace_flat.proofs.PlaceLaws.{own-place}
 use Rattle.trace_flat.proofs.StartLaws.{places, begin-is, wake_is, start_agrees}
 use Rattle.trace_flat.proofs.RunShows.{Agree, RanSo, ran-is, keep-shows}
 use Rattle.trace_rings.specs.Rings.{met}
-use Rattle.translator.specs.declared.Answer.TheVariants as answer
+use Rattle.std.specs.Prelude.{Ok}
 use Rattle.trace.specs.Tables.{Tabled, Looking}
 use Rattle.trace.specs.Said.{Above, lent_in, lanes_lent, Safe, Runnable, Freed, LanesFreed}
 use Rattle.trace.proofs.ElementLaws.{in_out_lem, within-made, input-not_out}
@@ -259,14 +259,14 @@ module _ (u : List ℕ) (end settled pins n : ℕ) (bits starts out : List ℕ) 
           }
 
       pub flat-written : (e : lent_in bits starts (n * i) regs ≡ true) (room : n * (pins - i) ≤ length out) (v₃ after : List ℕ) → FlatRan lane_zero (counts settled regs i (pins - i)) bits n v₂ out v₃ after → Words16 bits → Words16 v₂
-          → Freed u end settled pins n bits starts out v₃ after (answer.Written (n * (pins - i)))
+          → Freed u end settled pins n bits starts out v₃ after (Ok (n * (pins - i)))
       flat-written e room v₃ after r lb lv = record {
         kept = above-flat lane_zero v₃ after r;
         says = λ m rn. (let f = ran-flat lane_zero v₃ after r lb lv m rn in free.ran_says u end settled pins n bits starts out sf w₁ regs ls i ei e room _ f.begun _ f.woken f.mem after f.ran m rn);
       }
 
       pub flat-lanes : (e : lanes_lent bits starts (n * i) regs ≡ true) (room : n * (pins - i) ≤ length out) (v₃ after : List ℕ) → FlatRan entire (counts settled regs i (pins - i)) bits n v₂ out v₃ after → Words16 bits → Words16 v₂
-          → (left : List ℕ) → WrittenBy (flat_keep v₃) regs starts left → Words16 out → Words16 after → Words16 starts → Words16 left → LanesFreed u end settled pins n bits starts out v₃ left after (answer.Written (n * (pins - i)))
+          → (left : List ℕ) → WrittenBy (flat_keep v₃) regs starts left → Words16 out → Words16 after → Words16 starts → Words16 left → LanesFreed u end settled pins n bits starts out v₃ left after (Ok (n * (pins - i)))
       flat-lanes e room v₃ after r lb lv left k lo la ls' ll = record {
         kept = above-flat entire v₃ after r;
         says = λ m rn. (let f = ran-flat entire v₃ after r lb lv m rn in

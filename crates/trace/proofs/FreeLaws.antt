@@ -1,7 +1,7 @@
 -- A netlist without rings: the tests, the start, all ticks. Assumes nothing.
 use Prim.Native.Nat.{ℕ, zero, suc, ◌+◌, ◌-◌, ◌*◌, ◌/◌, ◌≤◌, ◌<◌}
 use mathlib.Core.Path.{◌≡◌, refl, sym, ap, ◌∙◌, subst}
-use mathlib.Core.Bool.{Bool, true, false, cond, not, ◌&&◌}
+use mathlib.Core.Bool.{Bool, true, false, cond, ◌&&◌}
 use mathlib.Core.List.{List, [], ◌∷◌, ◌++◌, append_assoc}
 use native.Mathlib.Omega.{arith}
 use native.Mathlib.Decide.{ℕ_discrete}
@@ -9,7 +9,7 @@ use native.Mathlib.Nat.{mul-le-mul_right}
 use lib.ListN.{length, get_or, set}
 use lib.Seq.{sets}
 use lib.Dec.{T, eqb, ltb, leb, eqb→eq}
-use borrow.Author.Tests.{not-true, not-false, eq-eqb, ne_eqb, le-leb, lt-leb}
+use borrow.Author.Tests.{le-leb, lt-leb}
 use Rattle.laws.proofs.Regions.{sets-append, sets-front}
 use Rattle.calculus.specs.Answer.{Answer, good, refuse, ◌>>=◌, need}
 use Rattle.calculus.specs.Net.{Interface, Element, part, Net}
@@ -37,23 +37,18 @@ use Rattle.trace_steps.proofs.SweepLaws.{looks-table}
 use Rattle.trace_steps.proofs.TickLaws.{ordered_within, registers-within, pins_within, ins-within, outs-within}
 use Rattle.trace_rings.specs.Rings.{met}
 use Rattle.trace.specs.Tables.{Tabled, Looking}
-use Rattle.translator.specs.Said.{said_answer, AnswerSays, refused_as_lem}
+use Rattle.translator.specs.Said.{said_answer, AnswerSays}
 use Rattle.trace.specs.Said.{Above, lent_in, freed, Safe, Runnable, Freed}
-use Rattle.translator.specs.declared.Answer as code
-use Rattle.translator.specs.declared.Answer.TheVariants as answer
+use Rattle.std.specs.Prelude.{Result, Ok, Err}
+use Rattle.answers.specs.declared.Refusal.{Refusal}
+use Rattle.answers.specs.declared.Reason.{Reason}
+use Rattle.answers.specs.Refusals.{refusal_at}
 use Rattle.trace.proofs.Turning.{turns-keep}
 use Rattle.trace.proofs.ElementLaws.{in_out_lem}
 use Rattle.trace.proofs.PinLists.{up_to, upto_is, ins-length, outs-length, ins-outs}
 use Rattle.trace.proofs.RegisterLists.{Collected, collect, element_entry, registers-length, register_at_lem, register_number, registers-apart}
 use Rattle.trace.proofs.RunLaws.{RunStood, State, state-next, row-stored}
 use Rattle.trace.proofs.StageLaws.{tabled_same}
-
--- a test, and what it says
-pub said_no : {x : Bool} (r : Bool) → r ≡ x → not r ≡ true → x ≡ false
-said_no r e q = sym e ∙ not-true r q
-
-pub said_yes : {x : Bool} (r : Bool) → r ≡ x → not r ≡ false → x ≡ true
-said_yes r e q = sym e ∙ not-false r q
 
 -- ---- what is lent
 
@@ -62,18 +57,6 @@ module _ (bits starts : List ℕ) (reads regs : ℕ) where
   by_tests a b c d p q r s =
       ap (λ (x : Bool). x && eqb (length starts) regs && (all_bits bits && all_bits starts)) p ∙ ap (λ (x : Bool). a && x && (all_bits bits && all_bits starts)) q
       ∙ ap (λ (x : Bool). a && b && (x && all_bits starts)) r ∙ ap (λ (x : Bool). a && b && (c && x)) s
-
-  pub lent-first : (length bits ≡ reads → ⊥) → false ≡ lent_in bits starts reads regs
-  lent-first d = sym (by_tests false (eqb (length starts) regs) (all_bits bits) (all_bits starts) (ne_eqb (length bits) reads d) refl refl refl)
-
-  pub lent-second : length bits ≡ reads → (length starts ≡ regs → ⊥) → false ≡ lent_in bits starts reads regs
-  lent-second e d = sym (by_tests true false (all_bits bits) (all_bits starts) (eq-eqb (length bits) reads e) (ne_eqb (length starts) regs d) refl refl)
-
-  pub lent-third : length bits ≡ reads → length starts ≡ regs → all_bits bits ≡ false → false ≡ lent_in bits starts reads regs
-  lent-third e f g = sym (by_tests true true false (all_bits starts) (eq-eqb (length bits) reads e) (eq-eqb (length starts) regs f) g refl)
-
-  pub lent-last : length bits ≡ reads → length starts ≡ regs → all_bits bits ≡ true → all_bits starts ≡ lent_in bits starts reads regs
-  lent-last e f g = sym (by_tests true true true (all_bits starts) (eq-eqb (length bits) reads e) (eq-eqb (length starts) regs f) g refl)
 
   pub lent-counts : lent_in bits starts reads regs ≡ true → (length bits ≡ reads) × (length starts ≡ regs)
   lent-counts e = by (eqb (length bits) reads) (eqb (length starts) regs) refl refl e
@@ -163,23 +146,23 @@ module _ (m : Net) (n : ℕ) (bits starts out : List ℕ) where
   unfolding freed
   freed-is a c e f = ap (λ (x : Bool). answers x (leb needed (length out)) needed bytes) e ∙ ap (λ (x : Bool). answers a x needed bytes) f
 
-  says_of : (r : code.Answer) (after : List ℕ) (a : Answer (List ℕ)) → freed m n bits starts (length out) ≡ a → said_answer r ≡ said_of a → after ≡ out_of a out → AnswerSays r out after (freed m n bits starts (length out))
+  says_of : (r : Result ℕ Refusal) (after : List ℕ) (a : Answer (List ℕ)) → freed m n bits starts (length out) ≡ a → said_answer r ≡ said_of a → after ≡ out_of a out → AnswerSays r out after (freed m n bits starts (length out))
   says_of r after a e f g = record { said = f ∙ sym (ap said_of e); wrote = g ∙ sym (ap (λ (x : Answer (List ℕ)). out_of x out) e) }
 
   module _ (reads writes regs : ℕ) (er : reads ≡ n * length (in_pins m.pins)) (ew : writes ≡ n * length (out_pins m.pins)) (eg : regs ≡ length (registers m.elements)) where
     lent_is : (x : Bool) → lent_in bits starts reads regs ≡ x → lent_in bits starts (n * length (in_pins m.pins)) (length (registers m.elements)) ≡ x
     lent_is x e = ap (λ (k : ℕ). lent_in bits starts k (length (registers m.elements))) (sym er) ∙ ap (lent_in bits starts reads) (sym eg) ∙ e
 
-    pub says-20 : lent_in bits starts reads regs ≡ false → AnswerSays (refused_as_lem 20 0) out out (freed m n bits starts (length out))
-    says-20 e = says_of (refused_as_lem 20 0) out (refuse 20 0) (freed-is false (leb needed (length out)) (lent_is false e) refl) refl refl
+    pub says-20 : lent_in bits starts reads regs ≡ false → AnswerSays (Err (refusal_at Reason.WrongBits 0)) out out (freed m n bits starts (length out))
+    says-20 e = says_of (Err (refusal_at Reason.WrongBits 0)) out (refuse 20 0) (freed-is false (leb needed (length out)) (lent_is false e) refl) refl refl
 
-    pub says-17 : lent_in bits starts reads regs ≡ true → length out < writes → AnswerSays (refused_as_lem 17 writes) out out (freed m n bits starts (length out))
-    says-17 e l = says_of (refused_as_lem 17 writes) out (refuse 17 needed) (freed-is true false (lent_is true e) (lt-leb needed (length out) (subst (λ (k : ℕ). length out < k) ew l))) (ap (λ (k : ℕ). refuse 17 k) ew) refl
+    pub says-17 : lent_in bits starts reads regs ≡ true → length out < writes → AnswerSays (Err (refusal_at Reason.ShortOutput writes)) out out (freed m n bits starts (length out))
+    says-17 e l = says_of (Err (refusal_at Reason.ShortOutput writes)) out (refuse 17 needed) (freed-is true false (lent_is true e) (lt-leb needed (length out) (subst (λ (k : ℕ). length out < k) ew l))) (ap (λ (k : ℕ). refuse 17 k) ew) refl
 
-    pub says-written : lent_in bits starts reads regs ≡ true → writes ≤ length out → (after : List ℕ) → after ≡ sets out 0 bytes → AnswerSays (answer.Written writes) out after (freed m n bits starts (length out))
+    pub says-written : lent_in bits starts reads regs ≡ true → writes ≤ length out → (after : List ℕ) → after ≡ sets out 0 bytes → AnswerSays (Ok writes) out after (freed m n bits starts (length out))
     says-written e l after q =
         let k = rows-length (run m (given_bits m.pins bits) (start_bits m.elements starts)) (out_pins m.pins) 0 n in
-        says_of (answer.Written writes) after (good bytes) (freed-is true true (lent_is true e) (le-leb needed (length out) (subst (λ (k : ℕ). k ≤ length out) ew l)))
+        says_of (Ok writes) after (good bytes) (freed-is true true (lent_is true e) (le-leb needed (length out) (subst (λ (k : ℕ). k ≤ length out) ew l)))
         (ap (λ (k : ℕ). good k) (ew ∙ sym k)) (q ∙ sets-front bytes out (omega arith))
 
 -- ---- the start
@@ -386,7 +369,7 @@ module _ (u : List ℕ) (end settled pins n : ℕ) (bits starts out : List ℕ) 
     looks = λ j l. subst (λ (x : ℕ). Looks w₁ x) (sym (ls.above (order_at + j) (omega arith))) (looks-table ls.size ls.table (sf.order.looks j l));
   }
 
-  pub freed_20 : lent_in bits starts (n * i) regs ≡ false → Freed u end settled pins n bits starts out w₁ out (refused_as_lem 20 0)
+  pub freed_20 : lent_in bits starts (n * i) regs ≡ false → Freed u end settled pins n bits starts out w₁ out (Err (refusal_at Reason.WrongBits 0))
   freed_20 e = record {
     kept = listed_above u end w₁ regs ls;
     says = λ m rn. says-20 m n bits starts out (n * i) (n * (pins - i)) regs (reads-are m rn) (writes_are m rn) (regs_are u m end settled pins rn w₁ regs ls) e;
@@ -398,7 +381,7 @@ module _ (u : List ℕ) (end settled pins n : ℕ) (bits starts out : List ℕ) 
       writes_are : (m : Net) → Runnable u m end settled pins → n * (pins - i) ≡ n * length (out_pins m.pins)
       writes_are m rn = ap (λ (k : ℕ). n * k) (ap (λ (k : ℕ). pins - k) ei ∙ outs_are u m end settled pins rn w₁ regs ls)
 
-  pub freed_17 : lent_in bits starts (n * i) regs ≡ true → length out < n * (pins - i) → Freed u end settled pins n bits starts out w₁ out (refused_as_lem 17 (n * (pins - i)))
+  pub freed_17 : lent_in bits starts (n * i) regs ≡ true → length out < n * (pins - i) → Freed u end settled pins n bits starts out w₁ out (Err (refusal_at Reason.ShortOutput (n * (pins - i))))
   freed_17 e l = record {
     kept = listed_above u end w₁ regs ls;
     says = λ m rn. says-17 m n bits starts out (n * i) (n * (pins - i)) regs (ap (λ (k : ℕ). n * k) (ei ∙ ins_are u m end settled pins rn w₁ regs ls)) (ap (λ (k : ℕ). n * k) (ap (λ (k : ℕ). pins - k) ei ∙ outs_are u m end settled pins rn w₁ regs ls)) (regs_are u m end settled pins rn w₁ regs ls) e l;
@@ -425,7 +408,7 @@ module _ (u : List ℕ) (end settled pins n : ℕ) (bits starts out : List ℕ) 
     run_ready = runs-ready w₂ bg w₃ wk (lent-counts bits starts (n * i) regs e).0 room
 
     pub ran_says : (w₄ after : List ℕ) → Ran lane_zero (sizes settled regs pins) bits i (pins - i) n w₃ out w₄ after → (m : Net) → Runnable u m end settled pins
-        → AnswerSays (answer.Written (n * (pins - i))) out after (freed m n bits starts (length out))
+        → AnswerSays (Ok (n * (pins - i))) out after (freed m n bits starts (length out))
     ran_says w₄ after r m rn =
         let a = ei ∙ ins_are u m end settled pins rn w₁ regs ls in
         let c = ap (λ (k : ℕ). pins - k) ei ∙ outs_are u m end settled pins rn w₁ regs ls in

@@ -19,7 +19,6 @@ use Rattle.circuit_theorems.specs.Formed.{Formed}
 use Rattle.lean.specs.Layout.{left_out, kinds_from}
 use Rattle.trace_calculus.specs.Trace.{Source, from, made_part as made_by, source, looks, before, terminals}
 use Rattle.trace_theorems.proofs.Sources.{at_point, at_part, at_pin, out_terminal}
-use Rattle.trace_theorems.proofs.Owners.{last}
 use Rattle.trace_steps.specs.Map.{register_entry, inverter_entry, one_entry, point_entry}
 use Rattle.trace_steps.specs.Steps.{first_in, Looks, free_in}
 use Rattle.trace_steps.proofs.Laws.{first_two, first_one}

@@ -9,7 +9,7 @@ use native.Mathlib.Decide.{ℕ_discrete}
 use lib.ListN.{length, get_or, set, length-set}
 use lib.Seq.{sets, length-sets, ext_get_or, get_or-set_same, get_or-set_other}
 use lib.Dec.{T, eqb, leb, eqb→eq}
-use borrow.Author.Tests.{eq-eqb, ne_eqb, le-leb, lt-leb}
+use borrow.Author.Tests.{le-leb, lt-leb}
 use mathlib.Core.Logic.{◌≢◌}
 use Rattle.laws.proofs.Regions.{sets-front}
 use Rattle.calculus.specs.Answer.{Answer, good, refuse, ◌>>=◌, need}
@@ -32,10 +32,12 @@ use Rattle.trace_steps.specs.Words.{word_at, word_begin, keep_one, entire, lane_
 use Rattle.trace_steps.specs.Pins.{in_pin_count, RegistersListed}
 use Rattle.trace_steps.specs.Ticks.{sizes, Runs, running, Ran, TraceFits, StateKept}
 use Rattle.trace_steps.proofs.LaneLaws.{lit-lane}
-use Rattle.translator.specs.Said.{said_answer, refused_as_lem}
+use Rattle.translator.specs.Said.{said_answer}
 use Rattle.trace.specs.Said.{lanes_lent, lanes_free, LanesSay, Safe, Runnable, LanesFreed}
-use Rattle.translator.specs.declared.Answer as code
-use Rattle.translator.specs.declared.Answer.TheVariants as answer
+use Rattle.std.specs.Prelude.{Result, Ok, Err}
+use Rattle.answers.specs.declared.Refusal.{Refusal}
+use Rattle.answers.specs.declared.Reason.{Reason}
+use Rattle.answers.specs.Refusals.{refusal_at}
 use Rattle.trace.proofs.Turning.{turns-keep}
 use Rattle.trace.proofs.FreeLaws.{stood, ins_are, outs_are, regs_are, Going, ran-lane, listed_above, runs-ready}
 
@@ -191,7 +193,7 @@ module _ (m : Net) (n : ℕ) (bits state out : List ℕ) where
   unfolding lanes_free
   free-is a c e f = ap (λ (x : Bool). answers x (leb needed (length out)) needed (went m n bits state)) e ∙ ap (λ (x : Bool). answers a x needed (went m n bits state)) f
 
-  says_of : (r : code.Answer) (after left : List ℕ) (a : Answer LanesEnd) → lanes_free m n bits state (length out) ≡ a → said_answer r ≡ said_of (outs a) → after ≡ out_of (outs a) out → left ≡ state_of a state
+  says_of : (r : Result ℕ Refusal) (after left : List ℕ) (a : Answer LanesEnd) → lanes_free m n bits state (length out) ≡ a → said_answer r ≡ said_of (outs a) → after ≡ out_of (outs a) out → left ≡ state_of a state
       → LanesSay r out after state left (lanes_free m n bits state (length out))
   says_of r after left a e f g h = record {
     answer = record { said = f ∙ sym (ap (λ (x : Answer LanesEnd). said_of (outs x)) e); wrote = g ∙ sym (ap (λ (x : Answer LanesEnd). out_of (outs x) out) e) };
@@ -202,17 +204,17 @@ module _ (m : Net) (n : ℕ) (bits state out : List ℕ) where
     lent_is : (x : Bool) → lanes_lent bits state reads regs ≡ x → lanes_lent bits state (n * length (in_pins m.pins)) (length (registers m.elements)) ≡ x
     lent_is x e = ap (λ (k : ℕ). lanes_lent bits state k (length (registers m.elements))) (sym er) ∙ ap (lanes_lent bits state reads) (sym eg) ∙ e
 
-    pub says-20 : lanes_lent bits state reads regs ≡ false → LanesSay (refused_as_lem 20 0) out out state state (lanes_free m n bits state (length out))
-    says-20 e = says_of (refused_as_lem 20 0) out state (refuse 20 0) (free-is false (leb needed (length out)) (lent_is false e) refl) refl refl refl
+    pub says-20 : lanes_lent bits state reads regs ≡ false → LanesSay (Err (refusal_at Reason.WrongBits 0)) out out state state (lanes_free m n bits state (length out))
+    says-20 e = says_of (Err (refusal_at Reason.WrongBits 0)) out state (refuse 20 0) (free-is false (leb needed (length out)) (lent_is false e) refl) refl refl refl
 
-    pub says-17 : lanes_lent bits state reads regs ≡ true → length out < writes → LanesSay (refused_as_lem 17 writes) out out state state (lanes_free m n bits state (length out))
-    says-17 e l = says_of (refused_as_lem 17 writes) out state (refuse 17 needed) (free-is true false (lent_is true e) (lt-leb needed (length out) (subst (λ (k : ℕ). length out < k) ew l))) (ap (λ (k : ℕ). refuse 17 k) ew) refl refl
+    pub says-17 : lanes_lent bits state reads regs ≡ true → length out < writes → LanesSay (Err (refusal_at Reason.ShortOutput writes)) out out state state (lanes_free m n bits state (length out))
+    says-17 e l = says_of (Err (refusal_at Reason.ShortOutput writes)) out state (refuse 17 needed) (free-is true false (lent_is true e) (lt-leb needed (length out) (subst (λ (k : ℕ). length out < k) ew l))) (ap (λ (k : ℕ). refuse 17 k) ew) refl refl
 
     pub says-written : lanes_lent bits state reads regs ≡ true → writes ≤ length out → (after left : List ℕ) → after ≡ sets out 0 (went m n bits state).out → left ≡ (went m n bits state).state
-        → LanesSay (answer.Written writes) out after state left (lanes_free m n bits state (length out))
+        → LanesSay (Ok writes) out after state left (lanes_free m n bits state (length out))
     says-written e l after left q h =
         let k = rows-count (lane_run m bits state) (out_pins m.pins) 0 n in
-        says_of (answer.Written writes) after left (good (went m n bits state)) (free-is true true (lent_is true e) (le-leb needed (length out) (subst (λ (k : ℕ). k ≤ length out) ew l)))
+        says_of (Ok writes) after left (good (went m n bits state)) (free-is true true (lent_is true e) (le-leb needed (length out) (subst (λ (k : ℕ). k ≤ length out) ew l)))
         (ap (λ (k : ℕ). good k) (ew ∙ sym k)) (q ∙ sets-front (went m n bits state).out out (omega arith)) h
 
 pub lent-counts : (bits state : List ℕ) (reads regs : ℕ) → lanes_lent bits state reads regs ≡ true → (length bits ≡ reads) × (length state ≡ regs)
@@ -232,13 +234,13 @@ module _ (u : List ℕ) (end settled pins n : ℕ) (bits state out : List ℕ) (
   writes_are : (m : Net) → Runnable u m end settled pins → n * (pins - i) ≡ n * length (out_pins m.pins)
   writes_are m rn = ap (λ (k : ℕ). n * k) (ap (λ (k : ℕ). pins - k) ei ∙ outs_are u m end settled pins rn w₁ regs ls)
 
-  pub freed_20 : lanes_lent bits state (n * i) regs ≡ false → LanesFreed u end settled pins n bits state out w₁ state out (refused_as_lem 20 0)
+  pub freed_20 : lanes_lent bits state (n * i) regs ≡ false → LanesFreed u end settled pins n bits state out w₁ state out (Err (refusal_at Reason.WrongBits 0))
   freed_20 e = record {
     kept = listed_above u end w₁ regs ls;
     says = λ m rn. says-20 m n bits state out (n * i) (n * (pins - i)) regs (reads-are m rn) (writes_are m rn) (regs_are u m end settled pins rn w₁ regs ls) e;
   }
 
-  pub freed_17 : lanes_lent bits state (n * i) regs ≡ true → length out < n * (pins - i) → LanesFreed u end settled pins n bits state out w₁ state out (refused_as_lem 17 (n * (pins - i)))
+  pub freed_17 : lanes_lent bits state (n * i) regs ≡ true → length out < n * (pins - i) → LanesFreed u end settled pins n bits state out w₁ state out (Err (refusal_at Reason.ShortOutput (n * (pins - i))))
   freed_17 e l = record {
     kept = listed_above u end w₁ regs ls;
     says = λ m rn. says-17 m n bits state out (n * i) (n * (pins - i)) regs (reads-are m rn) (writes_are m rn) (regs_are u m end settled pins rn w₁ regs ls) e l;
@@ -250,7 +252,7 @@ module _ (u : List ℕ) (end settled pins n : ℕ) (bits state out : List ℕ) (
 
     module _ (w₄ after : List ℕ) (r : Ran entire (sizes settled regs pins) bits i (pins - i) n w₃ out w₄ after) where
       pub ran_says : (left : List ℕ) → StateKept w₄ regs state left → Words16 out → Words16 after → Words16 state → Words16 left → (m : Net) → Runnable u m end settled pins
-          → LanesSay (answer.Written (n * (pins - i))) out after state left (lanes_free m n bits state (length out))
+          → LanesSay (Ok (n * (pins - i))) out after state left (lanes_free m n bits state (length out))
       ran_says left kp lo la ls' ll m rn =
           let a = ei ∙ ins_are u m end settled pins rn w₁ regs ls in
           let c = ap (λ (k : ℕ). pins - k) ei ∙ outs_are u m end settled pins rn w₁ regs ls in
@@ -259,9 +261,3 @@ module _ (u : List ℕ) (end settled pins n : ℕ) (bits state out : List ℕ) (
           (state-left u m end settled pins rn w₁ regs ls state w₂ bg w₃ wk run_ready.0 bits out i (pins - i) n a c w₄ after r (lent-counts bits state (n * i) regs e).1 left kp ll ls')
 
 -- ---- the test
-
-pub lent_yes : (bits state : List ℕ) (reads regs : ℕ) → length bits ≡ reads → eqb (length state) regs ≡ lanes_lent bits state reads regs
-lent_yes bits state reads regs e = sym (ap (λ (b : Bool). b && eqb (length state) regs) (eq-eqb (length bits) reads e))
-
-pub lent_no : (bits state : List ℕ) (reads regs : ℕ) → (length bits ≡ reads → ⊥) → eqb (length bits) reads ≡ lanes_lent bits state reads regs
-lent_no bits state reads regs d = ne_eqb (length bits) reads d ∙ sym (ap (λ (b : Bool). b && eqb (length state) regs) (ne_eqb (length bits) reads d))

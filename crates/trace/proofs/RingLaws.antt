@@ -18,7 +18,7 @@ use Rattle.calculus.specs.Inputs.{made_at_lem, targets, is_out}
 use Rattle.calculus.specs.Record.{Among, here as in_here, there as in-there}
 use Rattle.circuit_theorems.specs.Terminals.{has}
 use Rattle.circuit_theorems.specs.Formed.{Formed}
-use Rattle.trace_calculus.specs.Trace.{Source, from, source, looks, before, terminals, up_from, inputs, rounds, OnRing, on_ring, none_on_ring, bit_byte_lem}
+use Rattle.trace_calculus.specs.Trace.{Source, looks, before, terminals, up_from, inputs, rounds, OnRing, on_ring, none_on_ring, bit_byte_lem}
 use Rattle.trace_theorems.proofs.Graph.{Back, last, step, longer, settled, settled_up, settled_free, all_of, all-at, all_settled, reach-back}
 use Rattle.trace_theorems.proofs.Sources.{closed, terminal_is, out_terminal, Decided, is-pin, is-wire, is-point, is-part, decided, in_all, looks-at, has_left, has_right, has-append, up_has, has_up}
 use Rattle.trace_theorems.proofs.TraceRings.{on_ring_lem, back_ring, runs_iff, accepted, ring_place}

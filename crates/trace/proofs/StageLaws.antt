@@ -9,7 +9,7 @@ use native.Mathlib.Decide.{ℕ_discrete, dec_le}
 use lib.ListN.{length, get_or}
 use lib.Dec.{T, eqb, ltb}
 use Rattle.laws.proofs.Regions.{region_ext}
-use Rattle.calculus.specs.Answer.{Answer, good, refuse, ◌>>=◌}
+use Rattle.calculus.specs.Answer.{Answer, good, refuse, refused, ◌>>=◌}
 use Rattle.calculus.specs.Net.{Interface, Net}
 use Rattle.calculus.specs.Lean.{lean}
 use Rattle.calculus.specs.Translate.{said_of, out_of}
@@ -40,11 +40,14 @@ use Rattle.trace_rings.specs.Rings.{mark, rest, met, InputOf, Rest, Fresh, RingF
 use Rattle.trace.specs.Tables.{TableEntry, Tabled, Looking}
 use Rattle.translator.specs.Made.{Keeps}
 use Rattle.translator.proofs.Keeping.{above_keeps}
-use Rattle.translator.specs.Said.{AnswerSays, refused_as_lem}
+use Rattle.translator.specs.Said.{AnswerSays}
 use Rattle.trace.specs.Said.{Above, TablesMade, freed, Runnable, Safe, Freed, lanes_free, LanesSay, LanesFreed}
 use Rattle.trace.specs.Ordering.{PutInOrder}
-use Rattle.trace.specs.declared.ordering.Ordered.TheVariants as ordered
-use Rattle.translator.specs.declared.Answer as code
+use Rattle.trace.specs.declared.ordering.Order.{Order}
+use Rattle.answers.specs.declared.Reason.{Reason}
+use Rattle.answers.specs.Refusals.{refusal_at, said_why}
+use Rattle.std.specs.Prelude.{Result, Ok, Err}
+use Rattle.answers.specs.declared.Refusal.{Refusal}
 use Rattle.trace.proofs.Turning.{turns-keep}
 use Rattle.trace.proofs.GateLaws.{gate-at, gate-looks, looks_looking, looking_looks, input-low}
 use Rattle.trace.proofs.OrderLaws.{Stage, End, settled-end}
@@ -54,9 +57,6 @@ use Rattle.trace.proofs.PinLists.{up_to, upto_is, pin_at_lem, number_pin, out_sh
 use Rattle.trace.proofs.ElementLaws.{within-made, made-within, in_terminal}
 
 -- ---- what stays
-
-pub above-none : (w : List ℕ) → Above w w
-above-none w = record { size = refl; above = λ j l. refl }
 
 pub above_then : {u v w : List ℕ} → Above u v → Above v w → Above u w
 above_then a b = record { size = b.size ∙ a.size; above = λ j l. b.above j l ∙ a.above j l }
@@ -285,26 +285,26 @@ module _ (u : List ℕ) (m : Net) (end pins total : ℕ) (g : Ground u m end pin
 
 -- ---- what is said
 
-stop : {A : Type 0} (a : Answer (Unit {0})) (k : Unit {0} → Answer A) (n x : ℕ) → a ≡ refuse n x → (a >>= k) ≡ refuse n x
-stop a k n x e = ap (λ (z : Answer (Unit {0})). z >>= k) e
+stop : {A : Type 0} (a : Answer (Unit {0})) (k : Unit {0} → Answer A) (why : Refusal) → a ≡ refused (said_why why) → (a >>= k) ≡ refused (said_why why)
+stop a k why e = ap (λ (z : Answer (Unit {0})). z >>= k) e
 
 go_on : {A : Type 0} (a : Answer (Unit {0})) (k : Unit {0} → Answer A) → a ≡ good tt → (a >>= k) ≡ k tt
 go_on a k e = ap (λ (z : Answer (Unit {0})). z >>= k) e
 
-pub ring_says : (m : Net) (n : ℕ) (bits starts out : List ℕ) (x : ℕ) → none_on_ring m (inputs m.elements) ≡ refuse 19 x → AnswerSays (refused_as_lem 19 x) out out (ran m n bits starts (length out))
+pub ring_says : (m : Net) (n : ℕ) (bits starts out : List ℕ) (why : Refusal) → none_on_ring m (inputs m.elements) ≡ refused (said_why why) → AnswerSays (Err why) out out (ran m n bits starts (length out))
 unfolding ran
-ring_says m n bits starts out x e =
-    let f = stop (none_on_ring m (inputs m.elements)) _ 19 x e in
+ring_says m n bits starts out why e =
+    let f = stop (none_on_ring m (inputs m.elements)) _ why e in
     record { said = sym (ap said_of f); wrote = sym (ap (λ (a : Answer (List ℕ)). out_of a out) f) }
 
 pub ran-freed : (m : Net) (n : ℕ) (bits starts : List ℕ) (room : ℕ) → none_on_ring m (inputs m.elements) ≡ good tt → ran m n bits starts room ≡ freed m n bits starts room
 unfolding ran freed
 ran-freed m n bits starts room e = go_on (none_on_ring m (inputs m.elements)) _ e
 
-pub lanes_ring : (m : Net) (n : ℕ) (bits state out : List ℕ) (x : ℕ) → none_on_ring m (inputs m.elements) ≡ refuse 19 x → LanesSay (refused_as_lem 19 x) out out state state (lanes_ran m n bits state (length out))
+pub lanes_ring : (m : Net) (n : ℕ) (bits state out : List ℕ) (why : Refusal) → none_on_ring m (inputs m.elements) ≡ refused (said_why why) → LanesSay (Err why) out out state state (lanes_ran m n bits state (length out))
 unfolding lanes_ran
-lanes_ring m n bits state out x e =
-    let f = stop (none_on_ring m (inputs m.elements)) _ 19 x e in
+lanes_ring m n bits state out why e =
+    let f = stop (none_on_ring m (inputs m.elements)) _ why e in
     record {
       answer = record { said = sym (ap (λ (a : Answer LanesEnd). said_of (outs a)) f); wrote = sym (ap (λ (a : Answer LanesEnd). out_of (outs a) out) f) };
       left = sym (ap (λ (a : Answer LanesEnd). state_of a state) f);
@@ -320,9 +320,6 @@ module _ (u : List ℕ) (e k p : ℕ) (w₃ : List ℕ) (end : ℕ) (md : Tables
   abbrev L : Net
   L = lean (net_in u e k p)
 
-  pub list_ready : Choosable w₃ end
-  list_ready = choosable w₃ L end p md.tabled
-
   grounded : Ground w₅ L end p total
   grounded = ground w₃ L end p md.tabled w₄ total ch md.past w₅ mk
 
@@ -336,32 +333,32 @@ module _ (u : List ℕ) (e k p : ℕ) (w₃ : List ℕ) (end : ℕ) (md : Tables
     pub lowest-ready : 1 ≤ left → Rest w₆ left × Fresh w₆ 2
     lowest-ready l = rest-ready w₅ L end p total grounded w₆ left st l
 
-    pub ring-ordered : 1 ≤ left → (w₇ : List ℕ) (x : ℕ) → RingFound w₆ left w₇ x → PutInOrder u e k p w₇ (ordered.OnRing x)
-    ring-ordered l w₇ x f = record { kept = above_then kept₆ (record { size = f.kept.size; above = λ j a. f.kept.above j (omega arith) }); says = ring-found w₅ L end p total grounded w₆ left st l w₇ x f }
+    pub ring-ordered : 1 ≤ left → (w₇ : List ℕ) (x : ℕ) → RingFound w₆ left w₇ x → PutInOrder u e k p w₇ (Err (refusal_at Reason.RingWithoutRegister x))
+    ring-ordered l w₇ x f = record { kept = above_then kept₆ (record { size = f.kept.size; above = λ j a. f.kept.above j (omega arith) }); given = tt; says = ring-found w₅ L end p total grounded w₆ left st l w₇ x f }
 
-    pub free-ordered : left ≡ 0 → PutInOrder u e k p w₆ (ordered.Free end total)
-    free-ordered z = record { kept = kept₆; says = (no-ring w₅ L end p total grounded w₆ left st z, runnable w₅ L end p total grounded w₆ left st z, safe w₅ L end p total grounded w₆ left st z) }
+    pub free-ordered : left ≡ 0 → PutInOrder u e k p w₆ (Ok (record { end = end; settled = total; pins = p }))
+    free-ordered z = record { kept = kept₆; given = refl; says = (no-ring w₅ L end p total grounded w₆ left st z, runnable w₅ L end p total grounded w₆ left st z, safe w₅ L end p total grounded w₆ left st z) }
 
 -- ---- put in order, the netlist is run
 
 module _ (u : List ℕ) (e k p : ℕ) (large : memory_size ≤ length u) (n : ℕ) (bits starts out₀ : List ℕ) where
-  pub ring_ran : (w : List ℕ) (x : ℕ) → PutInOrder u e k p w (ordered.OnRing x) → AnswerSays (refused_as_lem 19 x) out₀ out₀ (ran (lean (net_in u e k p)) n bits starts (length out₀)) × Keeps u w
-  ring_ran w x o = (ring_says (lean (net_in u e k p)) n bits starts out₀ x o.says, above_keeps u w large o.kept.size o.kept.above)
+  pub ring_ran : (w : List ℕ) (why : Refusal) → PutInOrder u e k p w (Err why) → AnswerSays (Err why) out₀ out₀ (ran (lean (net_in u e k p)) n bits starts (length out₀)) × Keeps u w
+  ring_ran w why o = (ring_says (lean (net_in u e k p)) n bits starts out₀ why o.says, above_keeps u w large o.kept.size o.kept.above)
 
-  pub free_ran : (w : List ℕ) (end total : ℕ) → PutInOrder u e k p w (ordered.Free end total) → (w₇ out : List ℕ) (r : code.Answer) → Freed w end total p n bits starts out₀ w₇ out r
+  pub free_ran : (w : List ℕ) (order : Order) → PutInOrder u e k p w (Ok order) → (w₇ out : List ℕ) (r : Result ℕ Refusal) → Freed w order.end order.settled order.pins n bits starts out₀ w₇ out r
       → AnswerSays r out₀ out (ran (lean (net_in u e k p)) n bits starts (length out₀)) × Keeps u w₇
-  free_ran w end total o w₇ out r f = (
+  free_ran w order o w₇ out r f = (
     subst (AnswerSays r out₀ out) (sym (ran-freed (lean (net_in u e k p)) n bits starts (length out₀) o.says.0)) (f.says (lean (net_in u e k p)) o.says.1),
     (let h = above_then o.kept f.kept in above_keeps u w₇ large h.size h.above),
   )
 
 module _ (u : List ℕ) (e k p : ℕ) (large : memory_size ≤ length u) (n : ℕ) (bits state₀ out₀ : List ℕ) where
-  pub lanes_ring-ran : (w : List ℕ) (x : ℕ) → PutInOrder u e k p w (ordered.OnRing x) → LanesSay (refused_as_lem 19 x) out₀ out₀ state₀ state₀ (lanes_ran (lean (net_in u e k p)) n bits state₀ (length out₀)) × Keeps u w
-  lanes_ring-ran w x o = (lanes_ring (lean (net_in u e k p)) n bits state₀ out₀ x o.says, above_keeps u w large o.kept.size o.kept.above)
+  pub lanes_ring-ran : (w : List ℕ) (why : Refusal) → PutInOrder u e k p w (Err why) → LanesSay (Err why) out₀ out₀ state₀ state₀ (lanes_ran (lean (net_in u e k p)) n bits state₀ (length out₀)) × Keeps u w
+  lanes_ring-ran w why o = (lanes_ring (lean (net_in u e k p)) n bits state₀ out₀ why o.says, above_keeps u w large o.kept.size o.kept.above)
 
-  pub lanes_free-ran : (w : List ℕ) (end total : ℕ) → PutInOrder u e k p w (ordered.Free end total) → (w₇ state out : List ℕ) (r : code.Answer) → LanesFreed w end total p n bits state₀ out₀ w₇ state out r
+  pub lanes_free-ran : (w : List ℕ) (order : Order) → PutInOrder u e k p w (Ok order) → (w₇ state out : List ℕ) (r : Result ℕ Refusal) → LanesFreed w order.end order.settled order.pins n bits state₀ out₀ w₇ state out r
       → LanesSay r out₀ out state₀ state (lanes_ran (lean (net_in u e k p)) n bits state₀ (length out₀)) × Keeps u w₇
-  lanes_free-ran w end total o w₇ state out r f = (
+  lanes_free-ran w order o w₇ state out r f = (
     subst (LanesSay r out₀ out state₀ state) (sym (lanes_free_lem (lean (net_in u e k p)) n bits state₀ (length out₀) o.says.0)) (f.says (lean (net_in u e k p)) o.says.1),
     (let h = above_then o.kept f.kept in above_keeps u w₇ large h.size h.above),
   )

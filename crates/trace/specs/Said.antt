@@ -1,5 +1,5 @@
 -- What a run in the working memory answers and leaves, in the terms of the definitions. Assumes nothing.
-use Rattle.std.specs.Prelude.{ℕ, ◌+◌, ◌*◌, ◌≤◌, ◌<◌, ◌≡◌, Bool, ◌&&◌, List, T, eqb, leb, length, get_or}
+use Rattle.std.specs.Prelude.{ℕ, ◌+◌, ◌*◌, ◌≤◌, ◌<◌, ◌≡◌, Bool, ◌&&◌, List, T, eqb, leb, length, get_or, Result}
 use Rattle.calculus.specs.Answer.{Answer, good, ◌>>=◌, need}
 use Rattle.calculus.specs.Net.{Net}
 use Rattle.calculus.specs.Lean.{lean}
@@ -15,8 +15,7 @@ use Rattle.trace_flat.specs.Flat.{flat_most}
 use Rattle.trace_rings.specs.Rings.{met}
 use Rattle.translator.specs.Said.{said_answer, AnswerSays}
 use Rattle.trace.specs.Tables.{Tabled, Looking}
-use Rattle.translator.specs.declared.Answer as code
-use Rattle.translator.specs.declared.Answer.TheVariants as answer
+use Rattle.answers.specs.declared.Refusal.{Refusal}
 
 -- ---- the stages
 
@@ -65,7 +64,7 @@ pub record Runnable (w : List ℕ) (m : Net) (end settled pins : ℕ) : Type 0 w
   pub free : (x : ℕ) → OnRing m x → ⊥
 
 -- it is run, whatever netlist it is
-pub record Freed (u : List ℕ) (end settled pins ticks : ℕ) (bits starts out₀ w out : List ℕ) (r : code.Answer) : Type 0 where
+pub record Freed (u : List ℕ) (end settled pins ticks : ℕ) (bits starts out₀ w out : List ℕ) (r : Result ℕ Refusal) : Type 0 where
   pub kept : Above u w
   pub says : (m : Net) → Runnable u m end settled pins → AnswerSays r out₀ out (freed m ticks bits starts (length out₀))
 
@@ -83,14 +82,14 @@ lanes_free m n bits state room = do
   good (went m n bits state)
 
 -- an answer, and what it leaves of the output and of the state, are those of `a`
-pub record LanesSay (r : code.Answer) (out₀ out state₀ state : List ℕ) (a : Answer LanesEnd) : Type 0 where
+pub record LanesSay (r : Result ℕ Refusal) (out₀ out state₀ state : List ℕ) (a : Answer LanesEnd) : Type 0 where
   pub answer : AnswerSays r out₀ out (outs a)
   pub left : state ≡ state_of a state₀
 
-pub record LanesFreed (u : List ℕ) (end settled pins ticks : ℕ) (bits state₀ out₀ w state out : List ℕ) (r : code.Answer) : Type 0 where
+pub record LanesFreed (u : List ℕ) (end settled pins ticks : ℕ) (bits state₀ out₀ w state out : List ℕ) (r : Result ℕ Refusal) : Type 0 where
   pub kept : Above u w
   pub says : (m : Net) → Runnable u m end settled pins → LanesSay r out₀ out state₀ state (lanes_free m ticks bits state₀ (length out₀))
 
 -- what a call leaves
-abbrev pub lanes_called : code.Answer → List ℕ → List ℕ → List ℕ → LanesCall
+abbrev pub lanes_called : Result ℕ Refusal → List ℕ → List ℕ → List ℕ → LanesCall
 lanes_called r out state work = record { said = said_answer r; out = out; state = state; work = work }

@@ -2,24 +2,19 @@
 ghost use Rattle.std.specs.Prelude.{◌≡◌};
 ghost use Rattle.trace.specs.Said.{lent_in, Safe, Roomy, Freed};
 
+use crate::ordering::Order;
+use answers::{Reason, Refusal};
 use trace_flat::{bits, layout};
 use trace_steps::{pins, ticks};
-use translator::Answer;
 
 // The input and start bits are of the exact number, and bits.
 fn lent(inputs: &[u8], starts: &[u8], reads: usize, regs: usize) -> bool
     ensures { result ≡ lent_in inputs.now starts.now reads regs }
 {
-    if inputs.len() != reads {
-        return false;
-    }
-    if starts.len() != regs {
-        return false;
-    }
-    if !pins::all_bits(inputs) {
-        return false;
-    }
-    pins::all_bits(starts)
+    inputs.len() == reads
+        && starts.len() == regs
+        && pins::all_bits(inputs)
+        && pins::all_bits(starts)
 }
 
 // 20, then 17, then the run.
@@ -28,27 +23,25 @@ pub fn run(
     inputs: &[u8],
     starts: &[u8],
     out: &mut [u8],
-    end: usize,
-    settled: usize,
-    pins: usize,
+    order: Order,
     ticks: usize,
-) -> Answer
-    requires { (Safe work.old end settled pins ticks) × (Roomy work.old end settled) }
-    ensures { Freed work.old end settled pins ticks inputs.now starts.now out.old work.new out.new result }
+) -> Result<usize, Refusal>
+    requires { (Safe work.old order.end order.settled order.pins ticks) × (Roomy work.old order.end order.settled) }
+    ensures { Freed work.old order.end order.settled order.pins ticks inputs.now starts.now out.old work.new out.new result }
 {
-    let regs = ticks::registers(work, end);
-    let ins = pins::input_pins(&work[..], pins);
-    let outs = pins - ins;
+    let regs = ticks::registers(work, order.end);
+    let ins = pins::input_pins(&work[..], order.pins);
+    let outs = order.pins - ins;
     let reads = ticks * ins;
     let writes = ticks * outs;
     if !lent(inputs, starts, reads, regs) {
-        return translator::refused(20, 0);
+        return Err(Reason::WrongBits.at(0));
     }
     if out.len() < writes {
-        return translator::refused(17, writes);
+        return Err(Reason::ShortOutput.at(writes));
     }
-    layout::lay(work, end, settled, regs, pins);
+    layout::lay(work, order.end, order.settled, regs, order.pins);
     bits::wake(work, starts, regs);
-    bits::run(work, inputs, out, settled, regs, ins, outs, ticks);
-    Answer::Written(writes)
+    bits::run(work, inputs, out, order.settled, regs, ins, outs, ticks);
+    Ok(writes)
 }

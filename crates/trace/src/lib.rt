@@ -14,7 +14,7 @@ ghost use Rattle.trace_calculus.specs.Trace.{trace, run_call};
 ghost use Rattle.trace_calculus.specs.Lanes.{lanes_trace, lanes_call};
 ghost use Rattle.trace.specs.Said.{LanesSay, lanes_called};
 
-use translator::{Answer, Made};
+use answers::Refusal;
 
 // The netlist is made and run. The working memory is not yet cleared.
 fn run_sheet(
@@ -24,14 +24,12 @@ fn run_sheet(
     out: &mut [u8],
     work: &mut [u16],
     ticks: u16,
-) -> Answer
+) -> Result<usize, Refusal>
     ensures { (AnswerSays result out.old out.new (trace (length work.old) sheet.now ticks inputs.now starts.now (length out.old)))
         × (Keeps work.old work.new) }
 {
-    match translator::make(sheet, work, true) {
-        Made::Refused(refusal) => Answer::Refused(refusal),
-        Made::Net(counts, _) => net::run_net(work, inputs, starts, out, counts, ticks as usize),
-    }
+    let made = translator::make(sheet, work, true)?;
+    net::run_net(work, inputs, starts, out, made.counts, ticks as usize)
 }
 
 // The lean netlist of a sheet is run for so many ticks. Lent are the bits of its input pins, in pin order, tick after tick, and one start
@@ -44,7 +42,7 @@ pub fn run(
     out: &mut [u8],
     work: &mut [u16],
     ticks: u16,
-) -> Answer
+) -> Result<usize, Refusal>
     ensures { called result out.new work.new ≡ run_call sheet.now inputs.now starts.now ticks out.old work.old }
 {
     let r = run_sheet(sheet, inputs, starts, out, work, ticks);
@@ -60,14 +58,12 @@ fn lanes_sheet(
     out: &mut [u16],
     work: &mut [u16],
     ticks: u16,
-) -> Answer
+) -> Result<usize, Refusal>
     ensures { (LanesSay result out.old out.new state.old state.new (lanes_trace (length work.old) sheet.now ticks inputs.now state.old (length out.old)))
         × (Keeps work.old work.new) }
 {
-    match translator::make(sheet, work, true) {
-        Made::Refused(refusal) => Answer::Refused(refusal),
-        Made::Net(counts, _) => wide::run_net(work, inputs, state, out, counts, ticks as usize),
-    }
+    let made = translator::make(sheet, work, true)?;
+    wide::run_net(work, inputs, state, out, made.counts, ticks as usize)
 }
 
 // The lean netlist of a sheet is run for so many ticks, for sixteen traces at once: bit k of each number of inputs, state and output belongs to
@@ -81,7 +77,7 @@ pub fn lanes(
     out: &mut [u16],
     work: &mut [u16],
     ticks: u16,
-) -> Answer
+) -> Result<usize, Refusal>
     ensures { lanes_called result out.new state.new work.new ≡ lanes_call sheet.now inputs.now state.old ticks out.old work.old }
 {
     let r = lanes_sheet(sheet, inputs, state, out, work, ticks);

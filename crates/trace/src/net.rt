@@ -10,9 +10,8 @@ ghost use Rattle.trace_calculus.specs.Trace.{ran};
 ghost use Rattle.translator.specs.Said.{AnswerSays};
 ghost use Rattle.trace.specs.Tables.{FewParts};
 
-use crate::ordering::Ordered;
 use crate::{free, ordering};
-use translator::Answer;
+use answers::Refusal;
 use wiring::Counts;
 
 // The lean netlist is put in order and run for so many ticks: 19, 20, 17.
@@ -23,18 +22,11 @@ pub fn run_net(
     out: &mut [u8],
     counts: Counts,
     ticks: usize,
-) -> Answer
+) -> Result<usize, Refusal>
     requires { (Ready work.old counts.elements counts.wires counts.pins) × (All Known (net_in work.old counts.elements counts.wires counts.pins).elements) × (ticks ≤ 65535) × (FewParts (net_in work.old counts.elements counts.wires counts.pins)) }
     ensures { (AnswerSays result out.old out.new (ran (lean (net_in work.old counts.elements counts.wires counts.pins)) ticks inputs.now starts.now (length out.old)))
         × (Keeps work.old work.new) }
 {
-    let elements = counts.elements;
-    let wires = counts.wires;
-    let pins = counts.pins;
-    match ordering::put_in_order(work, elements, wires, pins) {
-        Ordered::OnRing(place) => translator::refused(19, place),
-        Ordered::Free(end, total) => {
-            free::run(work, inputs, starts, out, end, total, pins, ticks)
-        }
-    }
+    let order = ordering::put_in_order(work, counts.elements, counts.wires, counts.pins)?;
+    free::run(work, inputs, starts, out, order, ticks)
 }

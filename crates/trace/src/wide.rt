@@ -1,4 +1,5 @@
-// Sixteen traces at once run through the lean netlist that stands in the working memory: the stages of `net` and `free`, over numbers.
+// Sixteen traces at once run through the lean netlist that stands in the working memory: the stages of `net` and `free`, over numbers. They
+// stay apart from those: the test, the run and the state that is kept differ, and every clause with them, so one function would be no plainer.
 ghost use Rattle.std.specs.Prelude.{◌≡◌, ◌≤◌, length};
 ghost use Rattle.calculus.specs.Lean.{lean};
 ghost use Rattle.calculus.specs.NetRead.{Known};
@@ -10,10 +11,10 @@ ghost use Rattle.trace.specs.Said.{lanes_lent, Safe, Roomy, LanesFreed, LanesSay
 ghost use Rattle.trace.specs.Tables.{FewParts};
 
 use crate::ordering;
-use crate::ordering::Ordered;
+use crate::ordering::Order;
+use answers::{Reason, Refusal};
 use trace_flat::{lanes, layout};
 use trace_steps::{pins, ticks};
-use translator::Answer;
 use wiring::Counts;
 
 // The input numbers and the state are of the exact number.
@@ -29,30 +30,28 @@ fn run(
     inputs: &[u16],
     state: &mut [u16],
     out: &mut [u16],
-    end: usize,
-    settled: usize,
-    pins: usize,
+    order: Order,
     ticks: usize,
-) -> Answer
-    requires { (Safe work.old end settled pins ticks) × (Roomy work.old end settled) }
-    ensures { LanesFreed work.old end settled pins ticks inputs.now state.old out.old work.new state.new out.new result }
+) -> Result<usize, Refusal>
+    requires { (Safe work.old order.end order.settled order.pins ticks) × (Roomy work.old order.end order.settled) }
+    ensures { LanesFreed work.old order.end order.settled order.pins ticks inputs.now state.old out.old work.new state.new out.new result }
 {
-    let regs = ticks::registers(work, end);
-    let ins = pins::input_pins(&work[..], pins);
-    let outs = pins - ins;
+    let regs = ticks::registers(work, order.end);
+    let ins = pins::input_pins(&work[..], order.pins);
+    let outs = order.pins - ins;
     let reads = ticks * ins;
     let writes = ticks * outs;
     if !lent(inputs, &state[..], reads, regs) {
-        return translator::refused(20, 0);
+        return Err(Reason::WrongBits.at(0));
     }
     if out.len() < writes {
-        return translator::refused(17, writes);
+        return Err(Reason::ShortOutput.at(writes));
     }
-    layout::lay(work, end, settled, regs, pins);
+    layout::lay(work, order.end, order.settled, regs, order.pins);
     lanes::wake(work, &state[..], regs);
-    lanes::run(work, inputs, out, settled, regs, ins, outs, ticks);
+    lanes::run(work, inputs, out, order.settled, regs, ins, outs, ticks);
     lanes::keep(&work[..], state, regs);
-    Answer::Written(writes)
+    Ok(writes)
 }
 
 // The lean netlist is put in order and run for so many ticks: 19, 20, 17.
@@ -63,16 +62,11 @@ pub fn run_net(
     out: &mut [u16],
     counts: Counts,
     ticks: usize,
-) -> Answer
+) -> Result<usize, Refusal>
     requires { (Ready work.old counts.elements counts.wires counts.pins) × (All Known (net_in work.old counts.elements counts.wires counts.pins).elements) × (ticks ≤ 65535) × (FewParts (net_in work.old counts.elements counts.wires counts.pins)) }
     ensures { (LanesSay result out.old out.new state.old state.new (lanes_ran (lean (net_in work.old counts.elements counts.wires counts.pins)) ticks inputs.now state.old (length out.old)))
         × (Keeps work.old work.new) }
 {
-    let elements = counts.elements;
-    let wires = counts.wires;
-    let pins = counts.pins;
-    match ordering::put_in_order(work, elements, wires, pins) {
-        Ordered::OnRing(place) => translator::refused(19, place),
-        Ordered::Free(end, total) => run(work, inputs, state, out, end, total, pins, ticks),
-    }
+    let order = ordering::put_in_order(work, counts.elements, counts.wires, counts.pins)?;
+    run(work, inputs, state, out, order, ticks)
 }

@@ -2,8 +2,9 @@
 use Prim.Native.Nat.{ℕ, ◌+◌, ◌*◌, ◌≤◌, ◌<◌}
 use mathlib.Core.Path.{◌≡◌, refl, sym, ap, ◌∙◌, subst}
 use mathlib.Core.Logic.{◌⊎◌, inl, inr, ⊎_elim}
-use mathlib.Core.List.{List}
+use mathlib.Core.List.{List, map}
 use native.Mathlib.Omega.{arith}
+use Rattle.std.proofs.lemmas.List.{get_or-map, map-set}
 use lib.ListN.{length, get_or, set, length-set}
 use Rattle.memory.specs.Map.{memory_size}
 use Rattle.trace_steps.specs.Map.{order_at, bits_at}
@@ -88,6 +89,14 @@ flat_cells b f = record {
   outs = λ k h. let e = b.above (outs_at + k) (omega arith) in let l = f.outs k h in omega arith;
 }
 
+-- ---- an item of a trace, as a number
+
+pub item_at : {X : Type 0} (f : X → ℕ) (xs : List X) (i : ℕ) (x : X) (v : ℕ) → i < length xs → x ≡ get_or xs i x → v ≡ f x → v ≡ get_or (map f xs) i 0
+item_at f xs i x v h e k = k ∙ ap f e ∙ sym (get_or-map f xs i x 0 h)
+
+pub item_set : {X : Type 0} (f : X → ℕ) (xs : List X) (i : ℕ) (x : X) (v : ℕ) → f x ≡ v → map f (set xs i x) ≡ set (map f xs) i v
+item_set f xs i x v e = map-set f xs i x ∙ ap (set (map f xs) i) e
+
 -- ---- a load, pin after pin
 
 pub load_place : (u w : List ℕ) (n k : ℕ) → ((j : ℕ) → j < n → Place (get_or u (ins_at + j) 0)) → Cells u w → k < n → Place (get_or w (ins_at + k) 0)
@@ -101,8 +110,8 @@ load_next bits from n u w v k p h l e = record {
 
 -- ---- a store, pin after pin; and any list written
 
-pub written_next : (f : ℕ → List ℕ → List ℕ) (n k : ℕ) (out₀ out v : List ℕ) → k < n → WrittenBy f k out₀ out → length v ≡ length out → v ≡ f k out → (k + 1 ≤ n) × WrittenBy f (k + 1) out₀ v
-written_next f n k out₀ out v h w s e = (omega arith, record { size = s ∙ w.size; whole = e ∙ turns_next f k out₀ out w.whole })
+pub written_next : (f : ℕ → List ℕ → List ℕ) (k : ℕ) (out₀ out v : List ℕ) → WrittenBy f k out₀ out → length v ≡ length out → v ≡ f k out → WrittenBy f (k + 1) out₀ v
+written_next f k out₀ out v w s e = record { size = s ∙ w.size; whole = e ∙ turns_next f k out₀ out w.whole }
 
 -- ---- a tick
 
@@ -124,14 +133,12 @@ flat_tick_is g n r i o bits from to u out₀ a b c d out l m q h t =
 pub flat_ran_start : (g : ℕ → ℕ) (z : Counts) (bits u out₀ : List ℕ) → FlatRan g z bits 0 u out₀ u out₀
 flat_ran_start g z bits u out₀ = record { cells = cells_none u; size = refl; whole = refl }
 
-pub flat-ran_next : (g : ℕ → ℕ) (z : Counts) (bits : List ℕ) (t from to : ℕ) (u out₀ w out v w' : List ℕ) → from ≡ t * z.ins → to ≡ t * z.outs → FlatRan g z bits t u out₀ w out → FlatTicked g z bits from to w out w' v
+pub flat-ran_next : (g : ℕ → ℕ) (z : Counts) (bits : List ℕ) (t : ℕ) (u out₀ w out v w' : List ℕ) → FlatRan g z bits t u out₀ w out → FlatTicked g z bits (t * z.ins) (t * z.outs) w out w' v
     → FlatRan g z bits (t + 1) u out₀ w' v
-flat-ran_next g z bits t from to u out₀ w out v w' e f r k = record {
+flat-ran_next g z bits t u out₀ w out v w' r k = record {
   cells = cells_then r.cells k.cells;
   size = k.size ∙ r.size;
-  whole =
-      both (k.memory ∙ ap (λ (x : ℕ). flat_ticked z bits x w) e) (k.bytes ∙ ap (λ (x : ℕ). flat_shown g z bits x to w out) e ∙ ap (λ (y : ℕ). flat_shown g z bits (t * z.ins) y w out) f)
-      ∙ turns_next (flat_tick g z bits) t (running u out₀) (running w out) r.whole;
+  whole = both k.memory k.bytes ∙ turns_next (flat_tick g z bits) t (running u out₀) (running w out) r.whole;
 }
   where
     both : {a a' b b' : List ℕ} → a ≡ a' → b ≡ b' → running a b ≡ running a' b'

@@ -37,9 +37,9 @@ between-set lo hi w i v l h = record {
 }
 
 -- one turn more
-pub stretch-step : (lo hi : ℕ) (f : ℕ → List ℕ → List ℕ) (u w v : List ℕ) (j n : ℕ) → j < n → OnlyBetween lo hi u w → w ≡ take_turns f j 0 u → v ≡ f j w → OnlyBetween lo hi w (f j w)
-    → (j + 1 ≤ n) × (OnlyBetween lo hi u v × (v ≡ take_turns f (j + 1) 0 u))
-stretch-step lo hi f u w v j n h i q e k = (omega arith, (subst (λ (z : List ℕ). OnlyBetween lo hi u z) (sym e) (between_then i k), e ∙ turns_next f j u w q))
+pub stretch-step : (lo hi : ℕ) (f : ℕ → List ℕ → List ℕ) (u w v : List ℕ) (j : ℕ) → OnlyBetween lo hi u w → w ≡ take_turns f j 0 u → v ≡ f j w → OnlyBetween lo hi w (f j w)
+    → OnlyBetween lo hi u v × (v ≡ take_turns f (j + 1) 0 u)
+stretch-step lo hi f u w v j i q e k = (subst (λ (z : List ℕ). OnlyBetween lo hi u z) (sym e) (between_then i k), e ∙ turns_next f j u w q)
 
 -- the gates' places stay where only what they show changes
 pub gate-between : {u w : List ℕ} → OnlyBetween gates_at ins_at u w → {j : ℕ} → FlatGate u j → FlatGate w j
@@ -76,8 +76,8 @@ passing_gate u w n k g h p = gate-between p.between (g.each k h)
 pub passing_next : (u w v : List ℕ) (n i k : ℕ) → Gates u n → i < n → k ≡ i + 1 → Passing u i w → v ≡ flat_step i w → Passing u k v
 passing_next u w v n i k g h q p e =
     let few = g.few in
-    let r = stretch-step gates_at ins_at flat_step u w v i n h p.between p.whole e (between-set gates_at ins_at w (gates_at + i) _ (omega arith) (omega arith)) in
-    subst (λ (x : ℕ). Passing u x v) (sym q) (record { between = r.1.0; whole = r.1.1 })
+    let r = stretch-step gates_at ins_at flat_step u w v i p.between p.whole e (between-set gates_at ins_at w (gates_at + i) _ (omega arith) (omega arith)) in
+    subst (λ (x : ℕ). Passing u x v) (sym q) (record { between = r.0; whole = r.1 })
 
 -- ---- the layout
 

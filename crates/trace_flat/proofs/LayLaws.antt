@@ -11,18 +11,27 @@ use lib.Seq.{get_or-set_same}
 use Rattle.memory.specs.Map.{memory_size}
 use Rattle.lean.specs.Table.{Within}
 use Rattle.lean.proofs.TableLaws.{within_none, within_then, within-set, entry-same, entry_other}
-use Rattle.trace_steps.specs.Map.{registers_at, pins_at, bits_at, one_entry}
+use Rattle.trace_steps.specs.Map.{registers_at, order_at, pins_at, bits_at, one_entry}
 use Rattle.trace_steps.specs.Turns.{take_turns, Looped}
-use Rattle.trace_steps.specs.Steps.{Registers}
+use Rattle.trace_steps.specs.Steps.{Ordered, Registers}
 use Rattle.trace_steps.specs.Words.{word_at, every_lane, word_begin}
 use Rattle.trace_steps.specs.Pins.{pin_is_in, in_pin_count, out_pin_count, PinsLow}
 use Rattle.trace_steps.proofs.Laws.{turns_next, set_other}
 use Rattle.trace_steps.proofs.TickLaws.{registers-within, pins_within}
-use Rattle.trace_flat.specs.Flat.{OnlyBetween, Stretched, flat_most, sources_at, next_at, first_at, second_at_lem, third_at, gates_at, ins_at, outs_at, zero_at, one_at, place_one, place_register, place_gate, last_place, GatesLaid, SourcesLaid, PinsLaid, dark_one}
+use Rattle.trace_flat.specs.Flat.{OnlyBetween, Stretched, Listed, flat_most, sources_at, next_at, first_at, second_at_lem, third_at, gates_at, ins_at, outs_at, zero_at, one_at, place_one, place_register, place_gate, last_place, GatesLaid, SourcesLaid, PinsLaid, dark_one}
 use Rattle.trace_flat.specs.FlatTicks.{FlatLaid, Layable}
 use Rattle.trace_flat.proofs.Laws.{between_none, between_then, between-set, ins-few, outs-few}
 
 -- ---- what a list asks
+
+pub registers-listed : {w : List ℕ} {n : ℕ} → n ≤ flat_most → Registers w n → Listed w registers_at n
+registers-listed h r = record { size = r.size; before = omega arith; low = λ j k. (r.each j k).low }
+
+pub ordered-listed : {w : List ℕ} {n : ℕ} → n ≤ flat_most → Ordered w n → Listed w order_at n
+ordered-listed h o = record { size = o.size; before = omega arith; low = λ j k. (o.looks j k).low }
+
+pub listed-low : {u w : List ℕ} {list n : ℕ} → Within u w → Listed u list n → (j : ℕ) → j < n → get_or w (list + j) 0 < 8192
+listed-low {u} {w} {list} i a j h = let k = a.before in let e = i.below (list + j) (omega arith) in let l = a.low j h in omega arith
 
 pub registers-laid : {u w : List ℕ} {n : ℕ} → OnlyBetween first_at gates_at u w → Registers u n → Registers w n
 registers-laid {u} {w} b r = let s = b.size in let z = r.size in record {

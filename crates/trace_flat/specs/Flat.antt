@@ -82,11 +82,21 @@ pub record Stretched (lo hi : ℕ) (f : ℕ → List ℕ → List ℕ) (n : ℕ)
 abbrev pub place_one : ℕ → List ℕ → List ℕ
 place_one x w = set w (bits_at + x) (bits_at + x)
 
+-- the terminals of a list, with their bits from `first` on
+abbrev pub place_next : ℕ → ℕ → ℕ → List ℕ → List ℕ
+place_next list first j w = set w (bits_at + get_or w (list + j) 0) (first + j)
+
 abbrev pub place_register : ℕ → List ℕ → List ℕ
-place_register j w = set w (bits_at + get_or w (registers_at + j) 0) (shown_at + j)
+place_register = place_next registers_at shown_at
 
 abbrev pub place_gate : ℕ → List ℕ → List ℕ
-place_gate j w = set w (bits_at + get_or w (order_at + j) 0) (gates_at + j)
+place_gate = place_next order_at gates_at
+
+-- n terminals stand in a list before the bits
+pub record Listed (w : List ℕ) (list n : ℕ) : Type 0 where
+  pub size : memory_size ≤ length w
+  pub before : list + n ≤ bits_at
+  pub low : (j : ℕ) → j < n → get_or w (list + j) 0 < 8192
 
 -- ---- one form for all gates
 

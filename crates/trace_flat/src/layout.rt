@@ -7,7 +7,7 @@ ghost use Rattle.trace_steps.specs.Steps.{Looks, Ordered, Registers};
 ghost use Rattle.trace_steps.specs.Turns.{Looped};
 ghost use Rattle.trace_steps.specs.Pins.{PinsLow};
 ghost use Rattle.trace_flat.specs.FlatTicks.{Layable, FlatLaid};
-ghost use Rattle.trace_flat.specs.Flat.{flat_most, gates_at, ins_at, zero_at, one_at, Stretched, place_one, place_register, place_gate, second_for, third_for, lay_at, GatesLaid, SourcesLaid, PinsLaid, dark_one};
+ghost use Rattle.trace_flat.specs.Flat.{flat_most, gates_at, ins_at, zero_at, one_at, Stretched, Listed, place_one, place_next, second_for, third_for, lay_at, GatesLaid, SourcesLaid, PinsLaid, dark_one};
 
 use trace_steps::table::{BITS, ORDER, PINS, REGISTERS};
 use trace_steps::{table, ticks};
@@ -45,36 +45,19 @@ fn place(work: &mut [u16], end: usize)
     requires { (memory_size ≤ length work.old) × (end ≤ 8192) }
     ensures { Looped place_one end work.old work.new }
 {
-    let mut x: usize = 0;
-    while x < end {
+    for x in 0..end {
         work[BITS + x] = (BITS + x) as u16;
-        x = x + 1;
     }
 }
 
-// .. those of the registers side by side ..
-fn place_registers(work: &mut [u16], regs: usize)
-    requires { (Registers work.old regs) × (regs ≤ flat_most) }
-    ensures { Looped place_register regs work.old work.new }
+// .. or side by side from `first` on, those of the terminals in a list.
+fn place_listed(work: &mut [u16], list: usize, n: usize, first: usize)
+    requires { (Listed work.old list n) × (first + n ≤ memory_size) }
+    ensures { Looped (place_next list first) n work.old work.new }
 {
-    let mut j: usize = 0;
-    while j < regs {
-        let o = table::at(&work[..], REGISTERS + j);
-        work[BITS + o] = (SHOWN + j) as u16;
-        j = j + 1;
-    }
-}
-
-// .. and those of the gates, in their order.
-fn place_gates(work: &mut [u16], settled: usize)
-    requires { (Ordered work.old settled) × (settled ≤ flat_most) }
-    ensures { Looped place_gate settled work.old work.new }
-{
-    let mut j: usize = 0;
-    while j < settled {
-        let o = table::at(&work[..], ORDER + j);
-        work[BITS + o] = (GATES + j) as u16;
-        j = j + 1;
+    for j in 0..n {
+        let o = table::at(&work[..], list + j);
+        work[BITS + o] = (first + j) as u16;
     }
 }
 
@@ -114,10 +97,8 @@ fn lay_gates(work: &mut [u16], settled: usize)
     requires { (Ordered work.old settled) × (settled ≤ flat_most) }
     ensures { GatesLaid work.old settled work.new }
 {
-    let mut j: usize = 0;
-    while j < settled {
+    for j in 0..settled {
         lay_gate(work, j);
-        j = j + 1;
     }
 }
 
@@ -126,12 +107,10 @@ fn lay_registers(work: &mut [u16], regs: usize)
     requires { (Registers work.old regs) × (regs ≤ flat_most) }
     ensures { SourcesLaid work.old regs work.new }
 {
-    let mut j: usize = 0;
-    while j < regs {
+    for j in 0..regs {
         let o = table::at(&work[..], REGISTERS + j);
         let y = table::fed(&work[..], o - 1);
         work[SOURCES + j] = y;
-        j = j + 1;
     }
 }
 
@@ -142,8 +121,7 @@ fn lay_pins(work: &mut [u16], pins: usize)
 {
     let mut i: usize = 0;
     let mut o: usize = 0;
-    let mut k: usize = 0;
-    while k < pins {
+    for k in 0..pins {
         let code = table::at(&work[..], PINS + k);
         let y = work[BITS + code / 2];
         if code % 2 == 0 {
@@ -153,7 +131,6 @@ fn lay_pins(work: &mut [u16], pins: usize)
             work[OUTS + o] = y;
             o = o + 1;
         }
-        k = k + 1;
     }
 }
 
@@ -162,10 +139,8 @@ fn darken(work: &mut [u16], settled: usize)
     requires { (memory_size ≤ length work.old) × (settled ≤ flat_most) }
     ensures { Stretched gates_at ins_at dark_one settled work.old work.new }
 {
-    let mut j: usize = 0;
-    while j < settled {
+    for j in 0..settled {
         work[GATES + j] = 0;
-        j = j + 1;
     }
 }
 
@@ -184,8 +159,8 @@ pub fn lay(work: &mut [u16], end: usize, settled: usize, regs: usize, pins: usiz
     ensures { FlatLaid work.old end settled regs pins work.new }
 {
     place(work, memory::TERMINALS);
-    place_registers(work, regs);
-    place_gates(work, settled);
+    place_listed(work, REGISTERS, regs, SHOWN);
+    place_listed(work, ORDER, settled, GATES);
     lay_gates(work, settled);
     lay_registers(work, regs);
     lay_pins(work, pins);

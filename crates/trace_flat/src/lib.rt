@@ -5,3 +5,4 @@ pub mod bits;
 pub mod lanes;
 pub mod layout;
 pub mod steps;
+mod ticks;

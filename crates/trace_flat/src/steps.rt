@@ -14,7 +14,7 @@ fn form(a: u16, b: u16, c: u16) -> u16
 }
 
 // The bits at the place that stands at i.
-fn there(work: &[u16], i: usize) -> u16
+pub(crate) fn there(work: &[u16], i: usize) -> u16
     requires { (i < length work.now) × (get_or work.now i 0 < length work.now) }
     ensures { result ≡ there_at work.now i }
 {
@@ -37,19 +37,15 @@ pub fn pass(work: &mut [u16], settled: usize)
     requires { Gates work.old settled }
     ensures { Stretched gates_at ins_at flat_step settled work.old work.new }
 {
-    let mut j: usize = 0;
-    let mut t: usize = 0;
-    while t < settled / 4 {
+    for t in 0..settled / 4 {
+        let j = 4 * t;
         step(work, j);
         step(work, j + 1);
         step(work, j + 2);
         step(work, j + 3);
-        j = j + 4;
-        t = t + 1;
     }
-    while j < settled {
+    for j in settled / 4 * 4..settled {
         step(work, j);
-        j = j + 1;
     }
 }
 
@@ -58,10 +54,8 @@ pub fn hold(work: &mut [u16], regs: usize)
     requires { Sources work.old regs }
     ensures { Stretched next_at shown_at flat_hold regs work.old work.new }
 {
-    let mut j: usize = 0;
-    while j < regs {
+    for j in 0..regs {
         work[NEXT + j] = there(&work[..], SOURCES + j);
-        j = j + 1;
     }
 }
 
@@ -70,9 +64,7 @@ pub fn turn(work: &mut [u16], regs: usize)
     requires { (memory_size ≤ length work.old) × (regs ≤ flat_most) }
     ensures { Stretched shown_at order_at flat_turn regs work.old work.new }
 {
-    let mut j: usize = 0;
-    while j < regs {
+    for j in 0..regs {
         work[SHOWN + j] = work[NEXT + j];
-        j = j + 1;
     }
 }

@@ -8,11 +8,11 @@ use native.Mathlib.Decide.{ℕ_discrete}
 use lib.ListN.{length, get_or, set, length-set}
 use lib.Seq.{get_or-set_same}
 use lib.Dec.{T, eqb, ltb, eqb→eq}
-use borrow.Author.Tests.{ltb-true, eq-eqb, ne_eqb, lt-ltb, le-ltb}
+use borrow.Author.Tests.{ltb-true}
 use Rattle.lean.specs.Layout.{kinds_from}
 use Rattle.trace_steps.specs.Map.{rest_at, order_at, register_entry, one_entry, point_entry}
 use Rattle.trace_steps.proofs.Laws.{set_other}
-use Rattle.trace_rings.specs.Lists.{looks_at, looks_in, Choosable, Chosen}
+use Rattle.trace_rings.specs.Lists.{looks_at, looks_in, Choosable}
 
 -- what looks at something is an output
 pub looks-high : (v : ℕ) → looks_at v ≡ true → kinds_from ≤ v
@@ -22,15 +22,6 @@ looks-high v e = by (eqb v point_entry) (ltb register_entry v) (ltb v one_entry)
     by true b c q r e = let z = eqb→eq v point_entry (subst (λ (t : Bool). T t) (sym q) tt) in omega arith
     by false true c q r e = omega (arith, ltb-true register_entry v r)
     by false false c q r e = absurd (subst (λ (t : Bool). T t) (sym e) tt)
-
-pub looks_point : (v : ℕ) → v ≡ point_entry → true ≡ looks_at v
-looks_point v e = rw (eq-eqb v point_entry e)
-
-pub looks-gate : (v : ℕ) → (v ≡ point_entry → ⊥) → register_entry < v → ltb v one_entry ≡ looks_at v
-looks-gate v d l = rw (ne_eqb v point_entry d, lt-ltb register_entry v l)
-
-pub looks-none : (v : ℕ) → (v ≡ point_entry → ⊥) → v ≤ register_entry → ltb register_entry v ≡ looks_at v
-looks-none v d l = rw (ne_eqb v point_entry d, le-ltb register_entry v l)
 
 -- those from x on are listed
 pub record Choosing (u : List ℕ) (end x : ℕ) (w : List ℕ) (n : ℕ) : Type 0 where
@@ -44,20 +35,6 @@ pub record Choosing (u : List ℕ) (end x : ℕ) (w : List ℕ) (n : ℕ) : Type
   pub each : (k : ℕ) → k < n → (get_or w (rest_at + k) 0 < end) × (looks_in u (get_or w (rest_at + k) 0) ≡ true)
   pub falling : (i k : ℕ) → i < k → k < n → get_or w (rest_at + k) 0 < get_or w (rest_at + i) 0
   pub all : (y : ℕ) → x ≤ y → y < end → looks_in u y ≡ true → (k : ℕ) × (k < n) × (get_or w (rest_at + k) 0 ≡ y)
-
-pub choosing_start : (u : List ℕ) (end : ℕ) → Choosing u end end u 0
-choosing_start u end = record {
-  size = refl;
-  table = λ y l. refl;
-  above = λ j l. refl;
-  low = omega arith;
-  half = omega arith;
-  free = λ f. omega arith;
-  from = λ k l. absurd (omega arith);
-  each = λ k l. absurd (omega arith);
-  falling = λ i k l h. absurd (omega arith);
-  all = λ y l h e. absurd (omega arith);
-}
 
 module _ (u : List ℕ) (end x y : ℕ) (w : List ℕ) (n : ℕ) (p : Choosable u end) (c : Choosing u end x w n) (e : x ≡ y + 1) where
   pub choosing_same : looks_in w y ≡ looks_in u y
@@ -108,37 +85,3 @@ module _ (u : List ℕ) (end x y : ℕ) (w : List ℕ) (n : ℕ) (p : Choosable 
           | no d ↦ (let o = c.all a (omega arith) g v in (o.0, omega (arith, o.1), at_other (rest_at + o.0) (λ t. omega (arith, o.1)) ∙ o.2))
         ];
       }
-
-  pub choosing_no : looks_in w y ≡ false → Choosing u end y w n
-  choosing_no q =
-      let m = c.low in
-      let h = c.half in
-      record {
-        size = c.size;
-        table = c.table;
-        above = c.above;
-        low = omega arith;
-        half = omega arith;
-        free = λ g. omega arith;
-        from = λ k l. (let b = c.from k l in omega arith);
-        each = c.each;
-        falling = c.falling;
-        all = λ a l g v. elim (ℕ_discrete a y) [
-          | yes t ↦ absurd (subst (λ (b : Bool). T b) (sym choosing_same ∙ q) (subst (λ (b : Bool). T b) (sym (subst (λ (k : ℕ). looks_in u k ≡ true) t v)) tt))
-          | no d ↦ c.all a (omega arith) g v
-        ];
-      }
-
-pub choosing_end : (u : List ℕ) (end x : ℕ) (w : List ℕ) (n : ℕ) → Choosable u end → x ≡ 0 → Choosing u end x w n → Chosen u end w n
-choosing_end u end x w n p e c =
-    let f = p.few in
-    let h = c.half in
-    record {
-      size = c.size;
-      table = c.table;
-      above = c.above;
-      few = omega arith;
-      each = c.each;
-      falling = c.falling;
-      all = λ y l v. c.all y (omega arith) l v;
-    }

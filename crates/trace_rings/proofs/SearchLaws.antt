@@ -9,7 +9,7 @@ use native.Mathlib.Decide.{ℕ_discrete, dec_le}
 use lib.ListN.{length, get_or, set, length-set}
 use lib.Seq.{get_or-set_same}
 use lib.Dec.{T, eqb, ltb, eqb→eq}
-use borrow.Author.Tests.{eq-eqb, ne_eqb, eqb-false}
+use borrow.Author.Tests.{eqb-false}
 use Rattle.circuit_theorems.specs.Terminals.{has}
 use Rattle.laws.proofs.Regions.{region-length, region-at}
 use Rattle.memory.specs.Map.{region}
@@ -39,33 +39,6 @@ joined-kept w y s n l h = record {
   below = λ j g. set_other (set w (bits_at + y) s) (order_at + n) j y (λ z. omega arith) ∙ set_other w (bits_at + y) j s (λ z. omega arith);
   above = λ j g. set_other (set w (bits_at + y) s) (order_at + n) j y (λ z. omega arith) ∙ set_other w (bits_at + y) j s (λ z. omega arith);
 }
-
-pub meet_kept : (w : List ℕ) (y s n : ℕ) → y < 8192 → n ≤ 5120 → Kept w (meet_in w y s n).mem
-meet_kept w y s n l h = by (eqb (mark w y) 1 || eqb (mark w y) s)
-  where
-    by : (b : Bool) → Kept w (cond b (counted w n) (counted (joined w y s n) (n + 1))).mem
-    by true = kept-none w
-    by false = joined-kept w y s n l h
-
-pub meet_count : (w : List ℕ) (y s n : ℕ) → (meet_in w y s n).count ≤ n + 1
-meet_count w y s n = by (eqb (mark w y) 1 || eqb (mark w y) s)
-  where
-    by : (b : Bool) → (cond b (counted w n) (counted (joined w y s n) (n + 1))).count ≤ n + 1
-    by true = omega arith
-    by false = omega arith
-
-pub meet_settled : (w : List ℕ) (y s n : ℕ) → mark w y ≡ 1 → counted w n ≡ meet_in w y s n
-meet_settled w y s n e = sym (ap (λ (b : Bool). cond (b || eqb (mark w y) s) (counted w n) (counted (joined w y s n) (n + 1))) (eq-eqb (mark w y) 1 e))
-
-pub meet_stamped : (w : List ℕ) (y s n : ℕ) → (mark w y ≡ 1 → ⊥) → mark w y ≡ s → counted w n ≡ meet_in w y s n
-meet_stamped w y s n d e =
-    sym (ap (λ (b : Bool). cond (b || eqb (mark w y) s) (counted w n) (counted (joined w y s n) (n + 1))) (ne_eqb (mark w y) 1 d)
-    ∙ ap (λ (b : Bool). cond b (counted w n) (counted (joined w y s n) (n + 1))) (eq-eqb (mark w y) s e))
-
-pub meet_new : (w : List ℕ) (y s n : ℕ) → (mark w y ≡ 1 → ⊥) → (mark w y ≡ s → ⊥) → counted (joined w y s n) (n + 1) ≡ meet_in w y s n
-meet_new w y s n d e =
-    sym (ap (λ (b : Bool). cond (b || eqb (mark w y) s) (counted w n) (counted (joined w y s n) (n + 1))) (ne_eqb (mark w y) 1 d)
-    ∙ ap (λ (b : Bool). cond b (counted w n) (counted (joined w y s n) (n + 1))) (ne_eqb (mark w y) s e))
 
 -- ---- the search
 
@@ -312,16 +285,6 @@ module _ (u : List ℕ) (left x s : ℕ) (r : Rest u left) (f : Fresh u s) where
 
 -- ---- as code has it
 
-pub among-low : (u : List ℕ) (left x : ℕ) → Rest u left → InputAmong u left x → x < 8192
-among-low u left x r a = by a.input
-  where
-    low : rest u a.at < 8192
-    low = (r.looks a.at a.low).low
-
-    by : InputOf u (rest u a.at) x → x < 8192
-    by (inl e) = let l = low in omega (arith, first_low u (rest u a.at) l)
-    by (inr e) = let l = low in omega arith
-
 pub among-source : (u : List ℕ) (left x : ℕ) → Rest u left → InputAmong u left x → get_or u x 0 < 8192
 among-source u left x r a = by a.input
   where
@@ -370,23 +333,6 @@ going_end u left x s v m b w n h l g =
     let r = g u b in
     let e : h ≡ n = (let o = r.0.order in omega arith) in
     search-end u left x s b.holds b.fresh w n (subst (λ (k : ℕ). SearchingBack u left x s w n k) e r.0) r.1
-
--- both that output o looks at
-pub look_is : (w : List ℕ) (o s n x a : ℕ) (v : List ℕ) (k b : ℕ) (v' : List ℕ) (r : ℕ) → x ≡ first_in w o → a ≡ get_or w x 0 → counted v k ≡ meet_in w a s n → b ≡ get_or v (o - 1) 0 → counted v' r ≡ meet_in v b s k
-    → counted v' r ≡ look_in w o s n
-look_is w o s n x a v k b v' r e f g h i =
-    i ∙ ap (λ (z : ℕ). meet_in v z s k) h
-    ∙ ap (λ (c : Counted). meet_in c.mem (get_or c.mem (o - 1) 0) s c.count) (g ∙ ap (λ (z : ℕ). meet_in w z s n) (f ∙ ap (λ (z : ℕ). get_or w z 0) e))
-
-pub meet_after : (w : List ℕ) (y s n : ℕ) (v : List ℕ) (k : ℕ) → y < 8192 → n ≤ 5120 → counted v k ≡ meet_in w y s n → Kept w v × (k ≤ n + 1)
-meet_after w y s n v k l h e = (subst (λ (c : Counted). Kept w c.mem) (sym e) (meet_kept w y s n l h), subst (λ (c : Counted). c.count ≤ n + 1) (sym e) (meet_count w y s n))
-
-pub told_yes : (u : List ℕ) (x s o : ℕ) (w : List ℕ) (r : Bool) → o < 8192 → Searched u x s w → r ≡ eqb (mark w o) s → SearchTold u x s o w r
-told_yes u x s o w r l c e = record {
-  searched = c;
-  yes_behind = λ q. c.behind o l (eqb→eq (mark w o) s (subst (λ (b : Bool). T b) (sym q ∙ e) tt));
-  not_behind = λ q b. eqb-false (mark w o) s (sym e ∙ q) (c.all o b);
-}
 
 -- ---- the same behind, after marks have changed
 
@@ -481,15 +427,6 @@ pub record SeekingRing (u : List ℕ) (left : ℕ) (w : List ℕ) (j s : ℕ) : 
   pub count : s + 2 * j ≡ 2 + 2 * left
   pub low : j ≤ left
   pub clear : (i : ℕ) → j ≤ i → i < left → OnNoRing u (rest u i)
-
-pub seeking_start : (u : List ℕ) (left : ℕ) → Fresh u 2 → SeekingRing u left u left 2
-seeking_start u left f = record {
-  same = record { kept = kept-none u; settled = λ y e. e; still = λ y e. e };
-  fresh = f;
-  count = refl;
-  low = omega arith;
-  clear = λ i l h. absurd (omega arith);
-}
 
 -- a search more
 module _ (u w : List ℕ) (left : ℕ) (r : Rest u left) (same : SameMarks u w) (x s o : ℕ) (v : List ℕ) (b : Bool) (a : InputAmong u left x) (t : SearchTold w x s o v b) where

@@ -24,9 +24,7 @@ pub fn list(work: &mut [u16], end: usize) -> usize
     ensures { Chosen work.old end work.new result }
 {
     let mut n: usize = 0;
-    let mut x = end;
-    while x > 0 {
-        x = x - 1;
+    for x in (0..end).rev() {
         if looks(&work[..], x) {
             work[REST + n] = x as u16;
             n = n + 1;

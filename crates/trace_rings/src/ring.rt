@@ -14,10 +14,7 @@ fn meet(work: &mut [u16], y: usize, stamp: u16, n: usize) -> usize
     ensures { counted work.new result ≡ meet_in work.old y stamp n }
 {
     let m = work[BITS + y];
-    if m == 1 {
-        return n;
-    }
-    if m == stamp {
+    if m == 1 || m == stamp {
         return n;
     }
     work[BITS + y] = stamp;
@@ -45,6 +42,7 @@ fn search(work: &mut [u16], left: usize, x: usize, stamp: u16)
     let first = table::at(&work[..], x);
     let mut n = meet(work, first, stamp, 0);
     let mut h: usize = 0;
+    // No counted loop: n grows in it.
     while h < n {
         let o = table::at(&work[..], ORDER + h);
         n = look(work, o, stamp, n);
@@ -67,9 +65,7 @@ pub fn lowest(work: &mut [u16], left: usize) -> usize
     ensures { RingFound work.old left work.new result }
 {
     let mut stamp: u16 = 2;
-    let mut j = left;
-    while j > 0 {
-        j = j - 1;
+    for j in (0..left).rev() {
         let o = table::at(&work[..], REST + j);
         let x = table::first_of(&work[..], o);
         if on_ring(work, left, x, o, stamp) {

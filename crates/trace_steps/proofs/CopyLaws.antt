@@ -27,9 +27,6 @@ copied-kind v x h = rw (ne_eqb v 0 (λ z. omega arith), le-ltb v kinds_from h)
 
 -- ---- one after the other
 
-pub table-start : (u : List ℕ) → TableCopied u 0 u
-table-start u = record { size = refl; done = λ x l. absurd (omega arith); above = λ j l. refl }
-
 pub table-next : (u w : List ℕ) (x v : ℕ) → memory_size ≤ length u → x < 8192 → v ≡ copied (entry w x) x → TableCopied u x w → TableCopied u (x + 1) (set w x v)
 table-next u w x v z h e c =
     let s = c.size in

@@ -6,7 +6,7 @@ use mathlib.Core.Bool.{Bool, true, false, cond, not, ◌&&◌, ◌||◌, xor}
 use mathlib.Core.List.{List, [], ◌∷◌}
 use native.Mathlib.Omega.{arith}
 use lib.Bits.{bit_and, bit_or, bit_xor}
-use lib.Dec.{eqb, leb, ltb}
+use lib.Dec.{eqb, ltb}
 use lib.ListN.{length, get_or, set}
 use borrow.Author.Tests.{le-leb, lt-leb, lt-ltb, le-ltb}
 use Rattle.lean.specs.Table.{Within}
@@ -22,7 +22,7 @@ use Rattle.trace_steps.specs.Words.{gate_word, word_at, input_word, word_step, w
 use Rattle.trace_steps.specs.Pins.{Counted, counted, pin_is_in, PinsLow, load_one, store_one, word_store}
 use Rattle.trace_steps.specs.Ticks.{Sizes, sizes, lighted, ticked, shown_bits, word_lighted, word_ticked, word_shown, Runs, Running, running, tick_one, word_tick}
 use Rattle.trace_steps.proofs.Laws.{first_low, first-same, turns_next, ordered_at, register_at_lem, hold_within, turn_within, pass_within}
-use Rattle.trace_steps.proofs.TickLaws.{ordered_within, registers-within, pins_within, runs-within}
+use Rattle.trace_steps.proofs.TickLaws.{ordered_within, registers-within, pins_within}
 
 -- ---- the memory as lane k sees it
 

@@ -1,8 +1,8 @@
 -- Laws of loops, and of a memory of which only the marks and bits change. Assumes nothing.
 use Prim.Native.Nat.{ℕ, zero, suc, ◌+◌, ◌-◌, ◌≤◌, ◌<◌}
-use mathlib.Core.Path.{◌≡◌, refl, sym, ap, ◌∙◌, subst}
+use mathlib.Core.Path.{◌≡◌, sym, ap, ◌∙◌, subst}
 use mathlib.Core.Logic.{◌≢◌}
-use mathlib.Core.Bool.{Bool, true, false, cond, ◌&&◌, ◌||◌}
+use mathlib.Core.Bool.{Bool, true, false, cond, ◌&&◌}
 use mathlib.Core.List.{List}
 use native.Mathlib.Omega.{arith}
 use native.Mathlib.Numerals.{add-one}
@@ -114,23 +114,11 @@ step_is w o x a b v e f g h = rw (h, f, g, e)
 
 -- ---- one of four
 
-pub or_first : (a b c d : Bool) → a ≡ true → a ≡ a || (b || (c || d))
-or_first a b c d e = rw e
-
-pub or_second : (a b c d : Bool) → a ≡ false → b ≡ true → b ≡ a || (b || (c || d))
-or_second a b c d e f = rw (e, f)
-
-pub or_third : (a b c d : Bool) → a ≡ false → b ≡ false → c ≡ true → c ≡ a || (b || (c || d))
-or_third a b c d e f g = rw (e, f, g)
-
-pub or_fourth : (a b c d : Bool) → a ≡ false → b ≡ false → c ≡ false → d ≡ a || (b || (c || d))
-or_fourth a b c d e f g = rw (e, f, g)
-
 -- ---- loops over a memory of which only the marks and bits change
 
-pub loop_step : (f : ℕ → List ℕ → List ℕ) (u w v : List ℕ) (j n : ℕ) → j < n → Within u w → w ≡ take_turns f j 0 u → v ≡ f j w → Within w (f j w)
-    → (j + 1 ≤ n) × (Within u v × (v ≡ take_turns f (j + 1) 0 u))
-loop_step f u w v j n h i q e k = (omega arith, (subst (λ (z : List ℕ). Within u z) (sym e) (within_then i k), e ∙ turns_next f j u w q))
+pub loop_step : (f : ℕ → List ℕ → List ℕ) (u w v : List ℕ) (j : ℕ) → Within u w → w ≡ take_turns f j 0 u → v ≡ f j w → Within w (f j w)
+    → Within u v × (v ≡ take_turns f (j + 1) 0 u)
+loop_step f u w v j i q e k = (subst (λ (z : List ℕ). Within u z) (sym e) (within_then i k), e ∙ turns_next f j u w q)
 
 pub hold_within : (w : List ℕ) (j : ℕ) → Register w (get_or w (registers_at + j) 0) → Within w (hold_one j w)
 hold_within w j r = let l = r.low in within-set w (get_or w (registers_at + j) 0 - 1) _ (omega arith)

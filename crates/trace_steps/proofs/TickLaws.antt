@@ -5,7 +5,6 @@ use mathlib.Core.Bool.{cond}
 use mathlib.Core.List.{List}
 use native.Mathlib.Omega.{arith}
 use native.Mathlib.Nat.{suc-mul, mul-le-mul_right}
-use native.Mathlib.Numerals.{add-one}
 use lib.Dec.{eqb}
 use Rattle.lean.specs.Table.{Within}
 use Rattle.lean.proofs.TableLaws.{within_then}
@@ -66,14 +65,12 @@ tick_is g s r p bits from to u out₀ a b c d out i o l m q h t =
 
 -- ---- ticks one after the other
 
-pub ran-next : (g : ℕ → ℕ) (z : Sizes) (bits : List ℕ) (i o t from to : ℕ) (u out₀ w out v w' : List ℕ) → from ≡ t * i → to ≡ t * o → Ran g z bits i o t u out₀ w out → Ticked g z bits from to w out w' v
+pub ran-next : (g : ℕ → ℕ) (z : Sizes) (bits : List ℕ) (i o t : ℕ) (u out₀ w out v w' : List ℕ) → Ran g z bits i o t u out₀ w out → Ticked g z bits (t * i) (t * o) w out w' v
     → Ran g z bits i o (t + 1) u out₀ w' v
-ran-next g z bits i o t from to u out₀ w out v w' e f r k = record {
+ran-next g z bits i o t u out₀ w out v w' r k = record {
   within = within_then r.within k.within;
   size = k.size ∙ r.size;
-  whole =
-      both (k.memory ∙ ap (λ (x : ℕ). word_ticked z bits x w) e) (k.bytes ∙ ap (λ (x : ℕ). word_shown g z bits x to w out) e ∙ ap (λ (y : ℕ). word_shown g z bits (t * i) y w out) f)
-      ∙ turns_next (word_tick g z bits i o) t (running u out₀) (running w out) r.whole;
+  whole = both k.memory k.bytes ∙ turns_next (word_tick g z bits i o) t (running u out₀) (running w out) r.whole;
 }
   where
     both : {a a' b b' : List ℕ} → a ≡ a' → b ≡ b' → running a b ≡ running a' b'
@@ -81,9 +78,3 @@ ran-next g z bits i o t from to u out₀ w out v w' e f r k = record {
 
 pub fits_next : (t n i a : ℕ) → t < n → n * i ≤ a → t * i + i ≤ a
 fits_next t n i a h l = omega (arith, mul-le-mul_right {m = suc t} {n = n} i h, suc-mul t i)
-
-pub next_mul : (t i : ℕ) → t * i + i ≡ (t + 1) * i
-next_mul t i = sym (ap (λ (k : ℕ). k * i) (add-one t) ∙ suc-mul t i)
-
-pub zero_mul : (i : ℕ) → 0 ≡ 0 * i
-zero_mul i = omega arith

@@ -1,5 +1,5 @@
 -- The steps of a run, over the working memory (specs/Map says what stands where). Assumes nothing.
-use Rattle.std.specs.Prelude.{ℕ, ◌+◌, ◌-◌, ◌/◌, ◌≤◌, ◌<◌, Bool, true, false, cond, not, ◌&&◌, ◌||◌, List, length, get_or, set, eqb, ltb}
+use Rattle.std.specs.Prelude.{ℕ, ◌+◌, ◌-◌, ◌≤◌, ◌<◌, Bool, true, false, cond, not, ◌&&◌, ◌||◌, List, length, get_or, set, eqb, ltb}
 use Rattle.std.specs.Bool.{xor}
 use Rattle.memory.specs.Map.{memory_size}
 use Rattle.trace_calculus.specs.Trace.{bit_byte_lem}

@@ -26,10 +26,8 @@ pub fn copy_table(work: &mut [u16], end: usize)
     requires { (memory_size ≤ length work.old) × (end ≤ 8192) }
     ensures { TableCopied work.old end work.new }
 {
-    let mut x: usize = 0;
-    while x < end {
+    for x in 0..end {
         work[x] = entry_of(&work[..], x);
-        x = x + 1;
     }
 }
 
@@ -37,9 +35,7 @@ pub fn copy_pins(work: &mut [u16], pins: usize)
     requires { (memory_size ≤ length work.old) × (pins ≤ 128) }
     ensures { PinsCopied work.old pins work.new }
 {
-    let mut k: usize = 0;
-    while k < pins {
+    for k in 0..pins {
         work[PINS + k] = work[lean::PINS + k];
-        k = k + 1;
     }
 }

@@ -16,19 +16,19 @@ fn free(work: &[u16], x: usize) -> bool
 {
     let entry = work[x];
     entry as usize == x
-        || (entry == table::ZERO_ENTRY
-            || (entry == table::REGISTER_ENTRY || entry == table::ONE_ENTRY))
+        || matches!(
+            entry,
+            table::ZERO_ENTRY | table::REGISTER_ENTRY | table::ONE_ENTRY
+        )
 }
 
 pub fn mark_free(work: &mut [u16], end: usize)
     requires { (memory_size ≤ length work.old) × (end ≤ 8192) }
     ensures { Looped mark_one end work.old work.new }
 {
-    let mut x: usize = 0;
-    while x < end {
+    for x in 0..end {
         let f = free(&work[..], x);
         work[BITS + x] = table::byte(f);
-        x = x + 1;
     }
 }
 
@@ -67,8 +67,7 @@ fn sweep(work: &mut [u16], total: usize, left: usize) -> usize
 {
     let mut done = total - left;
     let mut kept: usize = 0;
-    let mut j: usize = 0;
-    while j < left {
+    for j in 0..left {
         let o = table::at(&work[..], REST + j);
         if ready(&work[..], o) {
             settle_one(work, o, done);
@@ -77,12 +76,11 @@ fn sweep(work: &mut [u16], total: usize, left: usize) -> usize
             keep_one(work, o, kept);
             kept = kept + 1;
         }
-        j = j + 1;
     }
     kept
 }
 
-// Sweeps, until none is left or one settles none; how many are left.
+// Sweeps, until none is left or one settles none; how many are left. A `while`: a sweep says how many stay, so there is nothing to count by.
 pub fn settle(work: &mut [u16], total: usize) -> usize
     requires { Sweepable work.old total total }
     ensures { AllSwept work.old total work.new result }

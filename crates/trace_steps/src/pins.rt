@@ -15,12 +15,10 @@ pub fn input_pins(work: &[u16], pins: usize) -> usize
     ensures { result ≡ in_pin_count work.now pins }
 {
     let mut n: usize = 0;
-    let mut k: usize = 0;
-    while k < pins {
+    for k in 0..pins {
         if table::at(work, PINS + k) % 2 == 0 {
             n = n + 1;
         }
-        k = k + 1;
     }
     n
 }
@@ -29,12 +27,10 @@ pub fn input_pins(work: &[u16], pins: usize) -> usize
 pub fn all_bits(bytes: &[u8]) -> bool
     ensures { result ≡ all_bits bytes.now }
 {
-    let mut i: usize = 0;
-    while i < bytes.len() {
-        if 1 < bytes[i] {
+    for b in bytes {
+        if 1 < *b {
             return false;
         }
-        i = i + 1;
     }
     true
 }
@@ -53,14 +49,12 @@ pub fn load(work: &mut [u16], inputs: &[u8], pins: usize, from: usize) -> usize
     ensures { Loading inputs.now work.old from pins work.new result }
 {
     let mut at = from;
-    let mut k: usize = 0;
-    while k < pins {
+    for k in 0..pins {
         let code = table::at(&work[..], PINS + k);
         if code % 2 == 0 {
             put(work, code / 2, inputs[at]);
             at = at + 1;
         }
-        k = k + 1;
     }
     at
 }
@@ -79,14 +73,12 @@ pub fn store(work: &[u16], out: &mut [u8], pins: usize, from: usize) -> usize
     ensures { Storing lane_zero work.now out.old from pins out.new result }
 {
     let mut at = from;
-    let mut k: usize = 0;
-    while k < pins {
+    for k in 0..pins {
         let code = table::at(work, PINS + k);
         if code % 2 != 0 {
             out[at] = bit_of(work, code / 2);
             at = at + 1;
         }
-        k = k + 1;
     }
     at
 }

@@ -16,10 +16,8 @@ pub fn begin(work: &mut [u16], end: usize)
     requires { (memory_size ≤ length work.old) × (end ≤ 8192) }
     ensures { Looped word_begin end work.old work.new }
 {
-    let mut x: usize = 0;
-    while x < end {
+    for x in 0..end {
         work[BITS + x] = table::all(work[x] == table::ONE_ENTRY);
-        x = x + 1;
     }
 }
 
@@ -28,11 +26,9 @@ pub fn wake(work: &mut [u16], starts: &[u8], regs: usize)
     requires { (Registers work.old regs) × (regs ≤ length starts.now) }
     ensures { Looped (wake_one starts.now) regs work.old work.new }
 {
-    let mut j: usize = 0;
-    while j < regs {
+    for j in 0..regs {
         let o = table::at(&work[..], REGISTERS + j);
         work[BITS + o] = starts[j] as u16;
-        j = j + 1;
     }
 }
 
@@ -63,11 +59,9 @@ pub fn pass(work: &mut [u16], settled: usize)
     requires { Ordered work.old settled }
     ensures { Looped word_pass settled work.old work.new }
 {
-    let mut j: usize = 0;
-    while j < settled {
+    for j in 0..settled {
         let o = table::at(&work[..], ORDER + j);
         step(work, o);
-        j = j + 1;
     }
 }
 
@@ -100,16 +94,15 @@ fn clock_one(work: &mut [u16], o: usize, turning: bool)
     }
 }
 
-// Each register's input terminal gets its bit; or, turning, its output gets that of its input.
+// Each register's input terminal gets its bit; or, turning, its output gets that of its input. One walk for both, by a flag: as two functions the loop and
+// its proof would be there twice.
 pub fn clock(work: &mut [u16], regs: usize, turning: bool)
     requires { Registers work.old regs }
     ensures { Looped (clock_one turning) regs work.old work.new }
 {
-    let mut j: usize = 0;
-    while j < regs {
+    for j in 0..regs {
         let o = table::at(&work[..], REGISTERS + j);
         clock_one(work, o, turning);
-        j = j + 1;
     }
 }
 
@@ -149,14 +142,10 @@ pub fn run(
     requires { (Runs work.old settled regs pins) × (TraceFits work.old (length inputs.now) (length out.old) pins reads writes ticks) }
     ensures { Ran lane_zero (sizes settled regs pins) inputs.now reads writes ticks work.old out.old work.new out.new }
 {
-    let mut from: usize = 0;
-    let mut to: usize = 0;
-    let mut t: usize = 0;
-    while t < ticks {
+    for t in 0..ticks {
+        let from = t * reads;
+        let to = t * writes;
         tick(work, inputs, out, settled, regs, pins, from, to);
-        from = from + reads;
-        to = to + writes;
-        t = t + 1;
     }
 }
 
@@ -166,13 +155,11 @@ pub fn registers(work: &mut [u16], end: usize) -> usize
     ensures { RegistersListed work.old end work.new result }
 {
     let mut n: usize = 0;
-    let mut x: usize = 0;
-    while x < end {
+    for x in 0..end {
         if work[x] == table::REGISTER_ENTRY {
             work[REGISTERS + n] = x as u16;
             n = n + 1;
         }
-        x = x + 1;
     }
     n
 }

@@ -14,7 +14,8 @@ use Rattle.export_calculus.specs.CardCall.{card_answer}
 use Rattle.translator.specs.Made.{lent}
 use Rattle.translator.specs.Said.{in_room, AnswerSays}
 use Rattle.translator.proofs.Lent.{need-first}
-use Rattle.translator.specs.declared.Answer as code
+use Rattle.std.specs.declared.result.Result.{Result}
+use Rattle.answers.specs.declared.Refusal.{Refusal}
 
 -- a call's answer is that of the netlist, once there is a full one
 pub answer-lent : (card : Bool) (memory : ℕ) (b : Wish) (s : List ℕ) (room : ℕ) → card_answer card memory b s room ≡ (lent memory s >>= λ m. on_card card s m >>= λ _. in_room (asked_bytes b m (makers_of s)) room)
@@ -31,7 +32,7 @@ named-bytes w m ks js n = by w.plain n
 
 module _ (card : Bool) (b : Wish) (s out : List ℕ) (memory : ℕ) where
   -- a netlist that was written is the one asked for
-  pub net_says : (r : code.Answer) (after : List ℕ) (m : Net) (ks : List ℕ) → good m ≡ lent memory s → (b.plain ≡ false → ks ≡ makers_of s) → (a : Answer (Unit {0})) → a ≡ on_card card s m
+  pub net_says : (r : Result ℕ Refusal) (after : List ℕ) (m : Net) (ks : List ℕ) → good m ≡ lent memory s → (b.plain ≡ false → ks ≡ makers_of s) → (a : Answer (Unit {0})) → a ≡ on_card card s m
       → AnswerSays r out after (a >>= λ _. in_room (asked_bytes b m ks) (length out))
       → AnswerSays r out after (card_answer card memory b s (length out))
   net_says r after m ks e n a q h = rw (answer-lent card memory b s (length out), ← e, ← q, ← named-bytes b m ks (makers_of s) n) h

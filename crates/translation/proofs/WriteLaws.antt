@@ -1,12 +1,11 @@
 -- What is answered for the netlist that is wished, and what the making of the lean one leaves of the working memory. Assumes nothing.
 use Prim.Native.Nat.{ℕ}
 use mathlib.Core.Path.{◌≡◌, refl, sym, ap₂, subst}
-use mathlib.Core.Bool.{Bool, true, false}
+use mathlib.Core.Bool.{Bool}
 use mathlib.Core.List.{List}
 use native.Mathlib.Omega.{arith}
 use lib.ListN.{length}
-use Rattle.calculus.specs.Answer.{Answer, good, refuse}
-use Rattle.calculus.specs.Read.{records_of}
+use Rattle.calculus.specs.Answer.{Answer, good, refused}
 use Rattle.calculus.specs.Net.{Net}
 use Rattle.calculus.specs.NetRead.{Known}
 use Rattle.calculus.specs.Record.{All}
@@ -17,16 +16,17 @@ use Rattle.laws.proofs.Regions.{region_ext}
 use Rattle.memory.specs.Map.{makers_at, region, net_in, Ready}
 use Rattle.memory.proofs.NetStays.{net-same}
 use Rattle.lean.specs.Layout.{Leant}
-use Rattle.export_calculus.specs.Card.{profiled}
-use Rattle.card.specs.Chains.{chain_in}
 use Rattle.translator.specs.Made.{Keeps}
 use Rattle.translator.proofs.Keeping.{above_keeps}
-use Rattle.translator.specs.Said.{refused_as_lem, in_room, AnswerSays}
-use Rattle.translator.specs.declared.Answer as code
-use Rattle.translation.specs.Wished.{card_by, on_pass}
+use Rattle.translator.specs.Said.{in_room, AnswerSays}
+use Rattle.std.specs.declared.result.Result.{Result}
+use Rattle.std.specs.declared.result.Result.TheVariants.{Err}
+use Rattle.answers.specs.declared.Refusal.{Refusal}
+use Rattle.answers.specs.Refusals.{said_why}
+use Rattle.translation.specs.Wished.{on_pass}
 
 -- the netlist that is wished
-pub wished_says : (w : Wish) (lean : Bool) (out after : List ℕ) (r : code.Answer) (m : Net) (ks : List ℕ) → w.lean ≡ lean → AnswerSays r out after (in_room (written w.plain (asked lean m) (asked_makers lean m ks)) (length out))
+pub wished_says : (w : Wish) (lean : Bool) (out after : List ℕ) (r : Result ℕ Refusal) (m : Net) (ks : List ℕ) → w.lean ≡ lean → AnswerSays r out after (in_room (written w.plain (asked lean m) (asked_makers lean m ks)) (length out))
     → AnswerSays r out after (in_room (asked_bytes w m ks) (length out))
 wished_says w lean out after r m ks e h = rw e h
 
@@ -53,18 +53,10 @@ module _ (u v : List ℕ) (e k p end : ℕ) (r : Ready u e k p) (l : Leant u e k
 
 -- ---- the card's check
 
-pub check_refused : (a : Answer (Unit {0})) (n p : ℕ) (out : List ℕ) (bytes : Answer (List ℕ)) → refuse n p ≡ a
-    → AnswerSays (refused_as_lem n p) out out (on_pass a bytes)
-check_refused a n p out bytes e = rw (← e) (record { said = refl; wrote = refl })
+pub check_refused : (a : Answer (Unit {0})) (why : Refusal) (out : List ℕ) (bytes : Answer (List ℕ)) → refused (said_why why) ≡ a
+    → AnswerSays (Err why) out out (on_pass a bytes)
+check_refused a why out bytes e = rw (← e) (record { said = refl; wrote = refl })
 
-pub check-passed : (a : Answer (Unit {0})) (r : code.Answer) (out after : List ℕ) (bytes : Answer (List ℕ)) → good tt ≡ a
+pub check-passed : (a : Answer (Unit {0})) (r : Result ℕ Refusal) (out after : List ℕ) (bytes : Answer (List ℕ)) → good tt ≡ a
     → AnswerSays r out after bytes → AnswerSays r out after (on_pass a bytes)
 check-passed a r out after bytes e h = rw (← e) h
-
-pub check-asked : (card : Bool) (s b : List ℕ) (t : ℕ) (m : Net) (r : code.Answer) (out after : List ℕ) (bytes : Answer (List ℕ)) → card ≡ true → b ≡ records_of s
-    → AnswerSays r out after (on_pass (profiled (chain_in b 256 t) (lean m)) bytes) → AnswerSays r out after (on_pass (card_by card (chain_in (records_of s) 256 t) m) bytes)
-check-asked card s b t m r out after bytes e f h = rw (e, ← f) h
-
-pub check_unasked : (card chained : Bool) (m : Net) (r : code.Answer) (out after : List ℕ) (bytes : Answer (List ℕ)) → card ≡ false
-    → AnswerSays r out after bytes → AnswerSays r out after (on_pass (card_by card chained m) bytes)
-check_unasked card chained m r out after bytes e h = rw e h

@@ -7,12 +7,13 @@ use mathlib.Core.Bool.{Bool}
 use Rattle.calculus.specs.Translate.{Wish, Call}
 use Rattle.export_calculus.specs.CardCall.{card_answer, card_call}
 use Rattle.translator.specs.Said.{called}
-use Rattle.translator.specs.declared.Answer as code
-use Rattle.translator.specs.declared.Answer.TheVariants as variant
+use Rattle.std.specs.declared.result.Result.{Result}
+use Rattle.std.specs.declared.result.Result.TheVariants.{Ok}
+use Rattle.answers.specs.declared.Refusal.{Refusal}
 use Rattle.translator.proofs.SaidLaws.{written_in}
 
-pub written-within : (r : code.Answer) (n : ℕ) (card : Bool) (w : Wish) (s before after work work' : List ℕ)
-    → called r after work' ≡ card_call card w s before work → r ≡ variant.Written n → n ≤ length after
+pub written-within : (r : Result ℕ Refusal) (n : ℕ) (card : Bool) (w : Wish) (s before after work work' : List ℕ)
+    → called r after work' ≡ card_call card w s before work → r ≡ Ok n → n ≤ length after
 unfolding card_call
 written-within r n card w s before after work work' h e =
     written_in (card_answer card (length work) w s (length before)) n before after (rw e at (ap (λ (x : Call). x.said) h)) (ap (λ (x : Call). x.out) h)

@@ -9,11 +9,11 @@ ghost use Rattle.translator.specs.Made.{Keeps};
 ghost use Rattle.translator.specs.Said.{AnswerSays, called};
 ghost use Rattle.translation.specs.Wished.{said_wish};
 
-use translator::{Answer, Made};
+use answers::Refusal;
 
 // What a caller wishes: the lean netlist or the full one; the plain kinds 21 and 22, or every element with the node that made it; the
 // card's profile checked, or not.
-#[derive(Clone, Copy)]
+#[derive(Clone, Copy, Debug, PartialEq, Eq)]
 pub struct Wish {
     pub lean: bool,
     pub plain: bool,
@@ -21,20 +21,22 @@ pub struct Wish {
 }
 
 // The netlist is made and written. The working memory is not yet cleared.
-fn run(sheet: &[u8], out: &mut [u8], work: &mut [u16], wish: Wish) -> Answer
+fn run(sheet: &[u8], out: &mut [u8], work: &mut [u16], wish: Wish) -> Result<usize, Refusal>
     ensures { (AnswerSays result out.old out.new (card_answer wish.card (length work.old) (said_wish wish) sheet.now (length out.old)))
         × (Keeps work.old work.new) }
 {
-    let plain = wish.plain;
-    match translator::make(sheet, work, plain) {
-        Made::Refused(refusal) => Answer::Refused(refusal),
-        Made::Net(counts, root) => write::write(sheet, work, out, counts, root, wish),
-    }
+    let made = translator::make(sheet, work, wish.plain)?;
+    write::write(sheet, work, out, made.counts, made.root, wish)
 }
 
 // The netlist of a sheet, the full one or the lean one, is written to the start of the output; or the sheet is refused, and the output
 // stays. The first 32,768 numbers of the working memory are 0 afterwards; where it has fewer, that is refusal 1, and it stays too.
-pub fn translate(sheet: &[u8], out: &mut [u8], work: &mut [u16], wish: Wish) -> Answer
+pub fn translate(
+    sheet: &[u8],
+    out: &mut [u8],
+    work: &mut [u16],
+    wish: Wish,
+) -> Result<usize, Refusal>
     ensures { called result out.new work.new ≡ card_call wish.card (said_wish wish) sheet.now out.old work.old }
 {
     let r = run(sheet, out, work, wish);

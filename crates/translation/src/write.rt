@@ -15,58 +15,61 @@ ghost use Rattle.translator.specs.Said.{AnswerSays, in_room};
 ghost use Rattle.translation.specs.Wished.{said_wish, card_by, on_pass};
 
 use crate::Wish;
-use card::Judged;
-use translator::Answer;
+use answers::{Reason, Refusal};
 use wiring::Counts;
 
 // The full netlist; 17 with the length needed where the output is shorter.
-fn write_full(
-    work: &[u16],
-    out: &mut [u8],
-    elements: usize,
-    wires: usize,
-    pins: usize,
-    plain: bool,
-) -> Answer
-    requires { (Ready work.now elements wires pins) × (All Known (net_in work.now elements wires pins).elements) }
-    ensures { AnswerSays result out.old out.new (in_room (written plain (net_in work.now elements wires pins) (region work.now makers_at elements)) (length out.old)) }
+fn write_full(work: &[u16], out: &mut [u8], counts: Counts, plain: bool) -> Result<usize, Refusal>
+    requires { (Ready work.now counts.elements counts.wires counts.pins) × (All Known (net_in work.now counts.elements counts.wires counts.pins).elements) }
+    ensures { AnswerSays result out.old out.new (in_room (written plain (net_in work.now counts.elements counts.wires counts.pins) (region work.now makers_at counts.elements)) (length out.old)) }
 {
+    let elements = counts.elements;
+    let wires = counts.wires;
+    let pins = counts.pins;
     let n = netlist::full_length(work, elements, wires, pins, plain);
     if out.len() < n {
-        return translator::refused(17, n);
+        return Err(Reason::ShortOutput.at(n));
     }
     let length = netlist::write_full(work, out, elements, wires, pins, plain);
-    Answer::Written(length)
+    Ok(length)
 }
 
 // The lean netlist, likewise, where it stands in the working memory by terminal.
-fn write_lean(work: &[u16], out: &mut [u8], end: usize, pins: usize, plain: bool) -> Answer
+fn write_lean(
+    work: &[u16],
+    out: &mut [u8],
+    end: usize,
+    pins: usize,
+    plain: bool,
+) -> Result<usize, Refusal>
     requires { LeanReady work.now end pins }
     ensures { AnswerSays result out.old out.new (in_room (written plain (lean_in work.now end pins) (lean_makers_in work.now end 0 (drop makers_at work.now))) (length out.old)) }
 {
     let n = lean::lean_length(work, end, pins, plain);
     if out.len() < n {
-        return translator::refused(17, n);
+        return Err(Reason::ShortOutput.at(n));
     }
     let written = lean::write_lean(work, out, end, pins, plain);
-    Answer::Written(written)
+    Ok(written)
 }
 
 // Without that check: the lean netlist is made of the full one where it is wished.
-fn write_plain(work: &mut [u16], out: &mut [u8], counts: Counts, wish: Wish) -> Answer
+fn write_plain(
+    work: &mut [u16],
+    out: &mut [u8],
+    counts: Counts,
+    wish: Wish,
+) -> Result<usize, Refusal>
     requires { (Ready work.old counts.elements counts.wires counts.pins) × (All Known (net_in work.old counts.elements counts.wires counts.pins).elements) }
     ensures { (AnswerSays result out.old out.new (in_room (asked_bytes (said_wish wish) (net_in work.old counts.elements counts.wires counts.pins) (region work.old makers_at counts.elements)) (length out.old)))
         × (Keeps work.old work.new) }
 {
-    let elements = counts.elements;
-    let wires = counts.wires;
-    let pins = counts.pins;
     let plain = wish.plain;
     if wish.lean {
-        let end = lean::make_lean(work, elements, wires, pins);
-        return write_lean(&work[..], out, end, pins, plain);
+        let end = lean::make_lean(work, counts.elements, counts.wires, counts.pins);
+        return write_lean(&work[..], out, end, counts.pins, plain);
     }
-    write_full(&work[..], out, elements, wires, pins, plain)
+    write_full(&work[..], out, counts, plain)
 }
 
 // The card's profile is judged over the lean netlist, then the one that is wished is written: making the lean one leaves the full one.
@@ -77,26 +80,20 @@ fn write_card(
     counts: Counts,
     root: u8,
     wish: Wish,
-) -> Answer
+) -> Result<usize, Refusal>
     requires { (Ready work.old counts.elements counts.wires counts.pins) × (All Known (net_in work.old counts.elements counts.wires counts.pins).elements) }
     ensures { (AnswerSays result out.old out.new (on_pass (profiled (chain_in records.now 256 root) (lean (net_in work.old counts.elements counts.wires counts.pins)))
         (in_room (asked_bytes (said_wish wish) (net_in work.old counts.elements counts.wires counts.pins) (region work.old makers_at counts.elements)) (length out.old))))
         × (Keeps work.old work.new) }
 {
-    let elements = counts.elements;
-    let wires = counts.wires;
     let pins = counts.pins;
     let plain = wish.plain;
-    let end = lean::make_lean(work, elements, wires, pins);
-    match card::judge(records, root, work, end, pins) {
-        Judged::Refused(number, place) => translator::refused(number, place),
-        Judged::Passes => {
-            if wish.lean {
-                return write_lean(&work[..], out, end, pins, plain);
-            }
-            write_full(&work[..], out, elements, wires, pins, plain)
-        }
+    let end = lean::make_lean(work, counts.elements, counts.wires, pins);
+    card::judge(records, root, work, end, pins)?;
+    if wish.lean {
+        return write_lean(&work[..], out, end, pins, plain);
     }
+    write_full(&work[..], out, counts, plain)
 }
 
 // What is wished: the check, and the netlist.
@@ -107,7 +104,7 @@ pub fn write(
     counts: Counts,
     root: u8,
     wish: Wish,
-) -> Answer
+) -> Result<usize, Refusal>
     requires { (Ready work.old counts.elements counts.wires counts.pins) × (All Known (net_in work.old counts.elements counts.wires counts.pins).elements) }
     ensures { (AnswerSays result out.old out.new (on_pass (card_by wish.card (chain_in (records_of sheet.now) 256 root) (net_in work.old counts.elements counts.wires counts.pins))
         (in_room (asked_bytes (said_wish wish) (net_in work.old counts.elements counts.wires counts.pins) (region work.old makers_at counts.elements)) (length out.old))))

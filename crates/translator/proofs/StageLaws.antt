@@ -14,14 +14,15 @@ use Rattle.calculus.specs.Net.{Net, make, net_of}
 use Rattle.calculus.specs.Translate.{full}
 use Rattle.sheet_theorems.proofs.Laying.{opened, laid}
 use Rattle.answers.specs.declared.Refusal.{Refusal as Why}
-use Rattle.answers.specs.Refusals.{said_why}
+use Rattle.answers.specs.Refusals.{refusal_at, said_why}
 use Rattle.records.specs.Editions.{edition_by}
 use Rattle.typing.specs.Answers.{TermAt, type_of, check_of}
-use Rattle.wiring.specs.declared.Counts.{Counts}
 use Rattle.wiring.specs.Whole.{NetStands}
 use Rattle.translator.specs.Stages.{ReadStage}
-use Rattle.translator.specs.Made.{lent, made_refused, Named, root_number, MakeLeaves}
-use Rattle.translator.specs.declared.Made.TheVariants as made
+use Rattle.translator.specs.Made.{lent, Named, root_number, MakeLeaves}
+use Rattle.std.specs.declared.result.Result.TheVariants.{Ok, Err}
+use Rattle.answers.specs.declared.Reason.{Reason}
+use Rattle.translator.specs.declared.Made.{Made}
 use Rattle.translator.proofs.Keeping.{later_keeps}
 
 -- ---- answers
@@ -35,16 +36,16 @@ lent_enough : (memory : ℕ) (s : List ℕ) → 32768 ≤ memory → lent memory
 unfolding lent
 lent_enough memory s h = rw (le-leb 32768 memory h)
 
-pub small_makes : (plain : Bool) (s work : List ℕ) → length work < 32768 → MakeLeaves plain (made_refused 1 0) s work work
+pub small_makes : (plain : Bool) (s work : List ℕ) → length work < 32768 → MakeLeaves plain (Err (refusal_at Reason.LittleMemory 0)) s work work
 small_makes plain s work h = record { said = sym (lent_small (length work) s h); standing = tt; named = tt; root = tt; keeps = refl }
 
 -- a refusal leaves the working memory
-refused_makes : (plain : Bool) (s work : List ℕ) (why : Why) → 32768 ≤ length work → full s ≡ refused (said_why why) → MakeLeaves plain (made.Refused why) s work work
+refused_makes : (plain : Bool) (s work : List ℕ) (why : Why) → 32768 ≤ length work → full s ≡ refused (said_why why) → MakeLeaves plain (Err why) s work work
 refused_makes plain s work why h e = record { said = sym (lent_enough (length work) s h ∙ e); standing = tt; named = tt; root = tt; keeps = refl }
 
 -- a netlist that stands in it
-pub net-makes : (plain : Bool) (s work after : List ℕ) (c : Counts) (t : ℕ) (m : Net) → 32768 ≤ length work → full s ≡ good m → root_number s ≡ good t → NetStands m c work after → Named plain (made.Net c t) s after → MakeLeaves plain (made.Net c t) s work after
-net-makes plain s work after c t m h e f S n = record {
+pub net-makes : (plain : Bool) (s work after : List ℕ) (q : Made) (m : Net) → 32768 ≤ length work → full s ≡ good m → root_number s ≡ good q.root → NetStands m q.counts work after → Named plain (Ok q) s after → MakeLeaves plain (Ok q) s work after
+net-makes plain s work after q m h e f S n = record {
   said = rw S.net (sym (lent_enough (length work) s h ∙ e));
   standing = (S.ready, S.known);
   named = n;
@@ -55,12 +56,12 @@ net-makes plain s work after c t m h e f S n = record {
 -- ---- stage by stage
 
 module _ (s work : List ℕ) (enough : 32768 ≤ length work) where
-  full-unread : (number place : ℕ) → read_sheet s ≡ refuse number place → full s ≡ refuse number place
+  full-unread : (why : Refusal) → read_sheet s ≡ refused why → full s ≡ refused why
   unfolding full
-  full-unread number place e = rw e
+  full-unread why e = rw e
 
-  pub unread_makes : (plain : Bool) (number place : ℕ) → read_sheet s ≡ refuse number place → MakeLeaves plain (made_refused number place) s work work
-  unread_makes plain number place e = refused_makes plain s work _ enough (full-unread number place e)
+  pub unread_makes : (plain : Bool) (why : Why) → read_sheet s ≡ refused (said_why why) → MakeLeaves plain (Err why) s work work
+  unread_makes plain why e = refused_makes plain s work why enough (full-unread (said_why why) e)
 
   module _ (σ : Sheet) (read : read_sheet s ≡ good σ) {E : Edition} {b : List ℕ} (edition : E ≡ edition_of s) (behind : b ≡ records_of s) where
     check-is : check_of E b ≡ type_of σ
@@ -78,7 +79,7 @@ module _ (s work : List ℕ) (enough : 32768 ≤ length work) where
         let w = untyped (walk σ.edition σ.table σ.term 0 []) why refl (sym check-is ∙ e) in
         rw (read, w)
 
-    pub untyped-makes : (plain : Bool) (why : Why) → check_of E b ≡ refused (said_why why) → MakeLeaves plain (made.Refused why) s work work
+    pub untyped-makes : (plain : Bool) (why : Why) → check_of E b ≡ refused (said_why why) → MakeLeaves plain (Err why) s work work
     untyped-makes plain why e = refused_makes plain s work why enough (full-untyped (said_why why) e)
 
     pub typed-found : (t : ℕ) → check_of E b ≡ good t → (r : Found) × (walk σ.edition σ.table σ.term 0 [] ≡ good r) × (r.type ≡ t)
@@ -89,7 +90,7 @@ module _ (s work : List ℕ) (enough : 32768 ≤ length work) where
     unfolding full
     full-many h = rw (read, walked, lt-leb (make σ.table σ.term [] 0).next 8192 h)
 
-    pub many-makes : (plain : Bool) → 8192 < (make σ.table σ.term [] 0).next → MakeLeaves plain (made_refused 16 0) s work work
+    pub many-makes : (plain : Bool) → 8192 < (make σ.table σ.term [] 0).next → MakeLeaves plain (Err (refusal_at Reason.ManyTerminals 0)) s work work
     many-makes plain h = refused_makes plain s work _ enough (full-many h)
 
     pub root-found : (t : ℕ) → r.type ≡ t → root_number s ≡ good t

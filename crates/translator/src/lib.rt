@@ -5,52 +5,18 @@
 ghost use Rattle.std.specs.Prelude.{◌≡◌, ◌≤◌, min, length};
 ghost use Rattle.calculus.specs.Translate.{work_of};
 ghost use Rattle.translator.specs.Stages.{ReadStage, WellTyped};
-ghost use Rattle.translator.specs.Made.{made_refused, MakeLeaves};
-ghost use Rattle.translator.specs.Said.{said_answer, refused_as_lem};
+ghost use Rattle.translator.specs.Made.{MakeLeaves};
+ghost use Rattle.translator.specs.Said.{said_answer};
 ghost use Rattle.answers.specs.Word.{packed};
 
-use answers::Refusal;
-use sheet::Verdict;
-use typing::Typing;
+use answers::{Reason, Refusal};
 use wiring::Counts;
 
-// What a call that writes answers: the number of bytes written, or a refusal, its number and place, and for 12 the type number wanted and
-// the one found.
+// How many elements, wires and pins of the netlist stand in the working memory, and the number of the root's type.
 #[derive(Clone, Copy)]
-pub enum Answer {
-    Written(usize),
-    Refused(Refusal),
-}
-
-// How many elements, wires and pins of the netlist stand in the working memory, and the number of the root's type; or a refusal.
-#[derive(Clone, Copy)]
-pub enum Made {
-    Net(Counts, u8),
-    Refused(Refusal),
-}
-
-// A refusal that names no types.
-pub fn refused(number: u8, place: usize) -> Answer
-    ensures { result ≡ refused_as_lem number place }
-{
-    Answer::Refused(Refusal {
-        number,
-        place,
-        wanted: 0,
-        found: 0,
-    })
-}
-
-// .. before there is a netlist.
-fn not_made(number: u8, place: usize) -> Made
-    ensures { result ≡ made_refused number place }
-{
-    Made::Refused(Refusal {
-        number,
-        place,
-        wanted: 0,
-        found: 0,
-    })
+pub struct Made {
+    pub counts: Counts,
+    pub root: u8,
 }
 
 // The terminals are counted before anything is made: 16.
@@ -62,19 +28,19 @@ fn counted(
     start: usize,
     root: u8,
     plain: bool,
-) -> Made
+) -> Result<Made, Refusal>
     requires { (32768 ≤ length work.old) × (WellTyped records.now sizes.now start nodes root) }
     ensures { (q : WellTyped records.now sizes.now start nodes root) → MakeLeaves plain result q.read.whole work.old work.new }
 {
     if 8192 < wiring::count(records, sizes, start, nodes) {
-        return not_made(16, 0);
+        return Err(Reason::ManyTerminals.at(0));
     }
     let counts = wiring::make_net(records, sizes, work, start);
     if plain {
-        return Made::Net(counts, root);
+        return Ok(Made { counts, root });
     }
     makers::name(records, sizes, work, start, nodes);
-    Made::Net(counts, root)
+    Ok(Made { counts, root })
 }
 
 // The typing walk: 10 to 15.
@@ -87,43 +53,34 @@ fn checked(
     start: usize,
     second: bool,
     plain: bool,
-) -> Made
+) -> Result<Made, Refusal>
     requires { (32768 ≤ length work.old) × (ReadStage records.now sizes.now types second start nodes) }
     ensures { (q : ReadStage records.now sizes.now types second start nodes) → MakeLeaves plain result q.read.whole work.old work.new }
 {
-    match typing::check(records, start, types, second) {
-        Typing::Refused(refusal) => Made::Refused(refusal),
-        Typing::Type(root) => counted(records, sizes, work, nodes, start, root, plain),
-    }
+    let root = typing::check(records, start, types, second)?;
+    counted(records, sizes, work, nodes, start, root, plain)
 }
 
 // The full netlist of a sheet in the working memory, with the nodes that made its elements where plain kinds are not wished, or refusal
 // 1 to 16: here the memory, 1, and the reader, 2 to 9.
-pub fn make(sheet: &[u8], work: &mut [u16], plain: bool) -> Made
+pub fn make(sheet: &[u8], work: &mut [u16], plain: bool) -> Result<Made, Refusal>
     ensures { MakeLeaves plain result sheet.now work.old work.new }
 {
     if work.len() < 32768 {
-        return not_made(1, 0);
+        return Err(Reason::LittleMemory.at(0));
     }
-    let r = sheet::read(sheet);
-    let verdict = r.verdict;
-    match verdict {
-        Verdict::Refused(number, place) => not_made(number, place),
-        Verdict::Read(types, nodes, start) => {
-            let sizes = r.sizes;
-            let second = sheet::is_second(sheet);
-            checked(
-                sheet::records_of(sheet),
-                &sizes,
-                work,
-                types,
-                nodes,
-                start,
-                second,
-                plain,
-            )
-        }
-    }
+    let r = sheet::read(sheet)?;
+    let second = sheet::is_second(sheet);
+    checked(
+        sheet::records_of(sheet),
+        &r.sizes,
+        work,
+        r.types,
+        r.nodes,
+        r.start,
+        second,
+        plain,
+    )
 }
 
 // The working memory as every call leaves it: the first 32,768 numbers 0; where it has fewer, as it was.
@@ -145,18 +102,18 @@ fn shown(n: u64, most: u64) -> u64
     most
 }
 
-// An answer as one number. Bits 0 to 31 hold the number of bytes written or the place, 32 to 39 the refusal's number, 0 for none, 40 to 51
-// the type number wanted and 52 to 63 the one found.
-pub fn word(answer: Answer) -> u64
+// What a call that writes answers, as one number: the number of bytes written, or a refusal. Bits 0 to 31 hold the number of bytes or the
+// place, 32 to 39 the refusal's number, 0 for none, 40 to 51 the type number wanted and 52 to 63 the one found.
+pub fn word(answer: Result<usize, Refusal>) -> u64
     ensures { result ≡ packed (said_answer answer) }
 {
     match answer {
-        Answer::Written(n) => shown(n as u64, 4294967295),
-        Answer::Refused(r) => {
+        Ok(n) => shown(n as u64, 4294967295),
+        Err(r) => {
             let place = shown(r.place as u64, 4294967295);
             let wanted = shown(r.wanted as u64, 4095);
             let found = shown(r.found as u64, 4095);
-            let first = r.number as u64 * 4294967296 + place;
+            let first = r.reason.number() as u64 * 4294967296 + place;
             first + (wanted * 1099511627776 + found * 4503599627370496)
         }
     }

@@ -7,6 +7,7 @@ use native.Mathlib.Omega.{arith}
 use native.Mathlib.Nat.{add-zero}
 use lib.Dec.{eqb}
 use lib.ListN.{length, get_or}
+use Rattle.std.proofs.Common.{Ok}
 use Rattle.calculus.specs.Answer.{good}
 use Rattle.notation_calculus.specs.Trees.{Text}
 use Rattle.notation_calculus.specs.Making.{State, Scope, most_entries}
@@ -115,6 +116,6 @@ places-none text w t p = subst (λ (n : ℕ). Places text w 0 n) (sym (add-zero 
 pub waited_moved :
     (text w : List ℕ) (h : Here) (l : Level) (q : Want) (r : code.Walking) (w' : List ℕ) (P : State → Type 0) (go : Moving) → CanWait w h → Waited w h l q r w'
     → ((X : Text) (m₀ base : ℕ) (σ : State) (S : Scope) (K : List TypeLevel) → AtLevel text w X m₀ base σ h S K → P σ → Wanting text (pushed w (h.more + 1) l (around_of h)) X m₀ base q (go X (row_bodies text w 0 (length X.clauses)) (here_with h S K) σ))
-    → Moved text w h P go r w'
+    → Moved text w h P go (Ok r) w'
 waited_moved text w h l q r w' P go C G says =
-    subst (λ (y : code.Walking). Moved text w h P go y w') (sym G.wants) (subst (λ (v : List ℕ). Moved text w h P go (walking.Wanted q) v) (sym G.stored) (record { walked = waited_walked w h l C; says = says }))
+    subst (λ (y : code.Walking). Moved text w h P go (Ok y) w') (sym G.wants) (subst (λ (v : List ℕ). Moved text w h P go (Ok (walking.Wanted q)) v) (sym G.stored) (record { walked = waited_walked w h l C; says = says }))

@@ -4,6 +4,8 @@ use mathlib.Core.Path.{◌≡◌, refl, sym, ap, subst, ◌∙◌}
 use mathlib.Core.List.{List, [], ◌∷◌}
 use native.Mathlib.Omega.{arith}
 use lib.ListN.{length}
+use Rattle.std.proofs.Common.{Result}
+use Rattle.answers.specs.declared.Refusal.{Refusal}
 use Rattle.notation_calculus.specs.Trees.{Form, product, arrow, linear, Text}
 use Rattle.notation_calculus.specs.Making.{State, most_entries}
 use Rattle.notation_calculus.specs.Words.{Word}
@@ -116,7 +118,7 @@ module _ (text w : List ℕ) (q : Come) (h : Here) (is_here : h ≡ here_in w q.
     pub inside-can : CanStep text w (walking.Came q) → CanMove text w h (Known q.ty) × Lexed text q.at
     inside-can C = (subst (λ (y : Here). CanMove text w y (Known q.ty)) (sym is_here) (come_can text w q (Known q.ty) (left_with text enclosed q.ty q.at) tells-inside C), (come_held text w q C).lexed)
 
-    pub inside-stepped : (w' : List ℕ) (r : code.Walking) → Moved text w h (Known q.ty) (left_with text enclosed q.ty q.at) r w' → Stepped text w (walking.Came q) r w'
+    pub inside-stepped : (w' : List ℕ) (r : Result code.Walking Refusal) → Moved text w h (Known q.ty) (left_with text enclosed q.ty q.at) r w' → Stepped text w (walking.Came q) r w'
     inside-stepped w' r M = come_moved text w q (Known q.ty) (left_with text enclosed q.ty q.at) tells-inside w' r (subst (λ (y : Here). Moved text w y (Known q.ty) (left_with text enclosed q.ty q.at) r w') is_here M)
 
   module _ (e : L.form ≡ 1) where
@@ -126,7 +128,7 @@ module _ (text w : List ℕ) (q : Come) (h : Here) (is_here : h ≡ here_in w q.
     pub body-can : CanStep text w (walking.Came q) → (next : ℕ) → next ≡ L.next → CanMove text w h (Known q.ty) × Lexed text next
     body-can C next z = (subst (λ (y : Here). CanMove text w y (Known q.ty)) (sym is_here) (come_can text w q (Known q.ty) (side_after text q.ty stored.next) tells-body C), let D = come_held text w q C in subst (Lexed text) (sym (z ∙ ap (λ (y : Level). y.next) is-level)) (body-wish text w 0 top stored D.l.wish D.level.wish (form_of e)).1)
 
-    pub body-stepped : (w' : List ℕ) (r : code.Walking) (next : ℕ) → next ≡ L.next → Moved text w h (Known q.ty) (side_after text q.ty next) r w' → Stepped text w (walking.Came q) r w'
+    pub body-stepped : (w' : List ℕ) (r : Result code.Walking Refusal) (next : ℕ) → next ≡ L.next → Moved text w h (Known q.ty) (side_after text q.ty next) r w' → Stepped text w (walking.Came q) r w'
     body-stepped w' r next z M = come_moved text w q (Known q.ty) (side_after text q.ty stored.next) tells-body w' r (subst (λ (y : Here). Moved text w y (Known q.ty) (side_after text q.ty stored.next) r w') is_here (subst (λ (j : ℕ). Moved text w h (Known q.ty) (side_after text q.ty j) r w') (z ∙ ap (λ (y : Level). y.next) is-level) M))
 
   module _ (e : L.form ≡ 2) (nm given : ℕ) (is_name : nm ≡ L.place) (is-given : given ≡ L.count) where
@@ -164,7 +166,7 @@ module _ (text w : List ℕ) (q : Come) (h : Here) (is_here : h ≡ here_in w q.
         let same : top + waiting_for D.l.wish ≡ h.top + given = omega (arith, a.waits, top-stored, given-stored) in
         (subst (λ (y : Here). CanMove text w y P) (sym is_here) (come_can text w q P go tells-argument C), (D.lexed, (omega (arith, name-stored, a.inside), (omega (arith, given-stored, top-stored, a.few), subst (λ (j : ℕ). Places text w 0 j) same D.level.places))))
 
-    pub argument-stepped : (w' : List ℕ) (r : code.Walking) → Moved text w h P go r w' → Stepped text w (walking.Came q) r w'
+    pub argument-stepped : (w' : List ℕ) (r : Result code.Walking Refusal) → Moved text w h P go r w' → Stepped text w (walking.Came q) r w'
     argument-stepped w' r M = come_moved text w q P go tells-argument w' r (subst (λ (y : Here). Moved text w y P go r w') is_here M)
 
   module _ (a : ¬ (L.form ≡ 0)) (b : ¬ (L.form ≡ 1)) (c : ¬ (L.form ≡ 2)) where
@@ -186,5 +188,5 @@ module _ (text w : List ℕ) (q : Come) (h : Here) (is_here : h ≡ here_in w q.
         let s = side-of C.X D.state D.l D.level in
         (subst (λ (y : Here). CanMove text w y R) (sym is_here) (come_can text w q R side tells-side C), (D.lexed, (s.low, s.high)))
 
-    pub side-stepped : (w' : List ℕ) (r : code.Walking) → Moved text w h R side r w' → Stepped text w (walking.Came q) r w'
+    pub side-stepped : (w' : List ℕ) (r : Result code.Walking Refusal) → Moved text w h R side r w' → Stepped text w (walking.Came q) r w'
     side-stepped w' r M = come_moved text w q R side tells-side w' r (subst (λ (y : Here). Moved text w y R side r w') is_here M)

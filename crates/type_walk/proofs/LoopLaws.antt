@@ -7,7 +7,11 @@ use mathlib.Core.List.{List, [], ◌∷◌}
 use native.Mathlib.Omega.{arith}
 use lib.ListN.{length}
 use borrow.Author.Tests.{ltb-true, ltb-false}
-use Rattle.calculus.specs.Answer.{Answer, good, refused, ◌>>=◌, refuse, Refusal}
+use Rattle.std.proofs.Common.{Result, Ok, Err}
+use Rattle.answers.specs.declared.Refusal.{Refusal as Why}
+use Rattle.answers.specs.Refusals.{said_why}
+use Rattle.type_walk.specs.declared.levels.Want.{Want}
+use Rattle.calculus.specs.Answer.{Answer, good, refused, ◌>>=◌, Refusal}
 use Rattle.calculus.proofs.Answers.{good-inj, refused≢good}
 use Rattle.notation_calculus.specs.Words.{Word}
 use Rattle.notation_calculus.specs.Trees.{TypeTree, Text}
@@ -22,11 +26,8 @@ use Rattle.notation_machine.proofs.Running.{runs-stay}
 use Rattle.notation_machine.proofs.TypeFalls.{type_start, type_falls}
 use Rattle.notation_machine.proofs.TypeFrom.{machine_type_from}
 use Rattle.words.specs.Lexed.{from, Lexed}
-use Rattle.grammar.specs.declared.steps.End.{End}
 use Rattle.grammar.specs.Ends.{rest_of, type_step, Ends}
 use Rattle.made_types.specs.Held.{HoldsState}
-use Rattle.walks.specs.declared.TypeEnd as type
-use Rattle.walks.specs.declared.TypeEnd.TheVariants as type-end
 use Rattle.walks.specs.Walkable.{row_bodies, Walkable}
 use Rattle.walks.specs.Walked.{TypesWalked}
 use Rattle.walks.specs.Says.{TypeAnswers, CanType, TypeSays}
@@ -34,9 +35,9 @@ use Rattle.walks.proofs.Kept.{types_walked_none, types_walked_then, bodies_on, r
 use Rattle.type_walk.specs.declared.levels.Come.{Come}
 use Rattle.type_walk.specs.declared.levels.Walking as code
 use Rattle.type_walk.specs.declared.levels.Walking.TheVariants as walking
-use Rattle.type_walk.specs.Holding.{LevelsHeld, Answered}
+use Rattle.type_walk.specs.Holding.{LevelsHeld, Answered, Answers}
 use Rattle.type_walk.specs.Moves.{found_in_lem, CanStep, Stepped}
-use Rattle.type_walk.specs.Loop.{going_in, ended_as, CanTypeAt}
+use Rattle.type_walk.specs.Loop.{going_in, CanTypeAt}
 use Rattle.type_walk.proofs.HoldLaws.{levels_within}
 
 -- where the run of a machine leads that is started at some words
@@ -58,7 +59,6 @@ module _ (text w : List ℕ) (X : Text) (m₀ base : ℕ) where
   goes : (s : code.Walking) (p : Answer Typing) → Answered text w X m₀ base s p → going_in s m₀ ≡ true → Goes p
   goes (walking.Wanted q) p H e = record { t = wanted q.more q.tight H.scope H.state (from text q.at) H.above; is = H.is; going = tt }
   goes (walking.Came q) p H e = came-goes q H.state H.above p H.levels (ltb-true q.more m₀ e) H.is
-  goes (walking.Refused n k) p H e = let z : ◌≡◌ {A = ℕ} 0 1 = cc in absurd (omega arith)
 
 going_some : (most : ℕ) (t : Typing) → Going t → 1 ≤ type_steps most t
 going_some most (wanted more tight S σ ws K) g = omega arith
@@ -128,8 +128,8 @@ module _ (text w₀ : List ℕ) (at more frame top : ℕ) (C : CanTypeAt text w�
       run_on zero r = absurd (not_ended more now.t (type_from X more S σ (from text at)) now.going r)
       run_on (suc k) r = (k, r)
 
-      pub walks-on : (w' : List ℕ) (r : code.Walking) → Stepped text w s r w' → Walks text w₀ X a more top w' r (left - 1)
-      walks-on w' r Z =
+      pub walks-on : (w' : List ℕ) (x : Result code.Walking Why) (r : code.Walking) → x ≡ Ok r → Stepped text w s x w' → Walks text w₀ X a more top w' r (left - 1)
+      walks-on w' x r i Z =
           let d = Z.says X more top now.t at-now now.going in
           let n = G.clauses.rows.few in
           let e : row_bodies text w 0 (length X.clauses) ≡ bodies = bodies_on more top text w₀ w W.kept 0 (length X.clauses) (omega arith) in
@@ -138,14 +138,32 @@ module _ (text w₀ : List ℕ) (at more frame top : ℕ) (C : CanTypeAt text w�
           record {
             kept = types_walked_then more more more top top top w₀ w w' (omega arith) (omega arith) (omega arith) (omega arith) W.kept d.0;
             answer = type_move X bodies now.t;
-            held = subst (λ (b : List (List Word)). Answered text w' X more top r (type_move X b now.t)) e d.1;
+            held = subst (λ (b : List (List Word)). Answered text w' X more top r (type_move X b now.t)) e (subst (λ (y : Result code.Walking Why). Answers text w' X more top y (type_move X (row_bodies text w 0 (length X.clauses)) now.t)) i d.1);
             steps = k.0;
             runs = k.1;
             few = on_map (λ (t : Typing). type_steps (length text + 1) t < type_steps (length text + 1) now.t) (λ (t : Typing). type_steps (length text + 1) t ≤ left - 1) (type_move X bodies now.t) (type_falls X bodies (length text + 1) short now.t now.going) (λ t l. omega arith);
           }
 
+      refused_ends : (w' : List ℕ) (q : Why) (m : Answer (Got Found)) → refused (said_why q) ≡ (m >>= λ x. good (came more x.value x.rest [])) → TypeAnswers text w' (Err q) m
+      refused_ends w' q (good x) e = absurd (refused≢good e)
+      refused_ends w' q (refused why) e = sym (refused-same e)
+        where
+          refused-same : {p q : Refusal} → ◌≡◌ {A = Answer Typing} (refused p) (refused q) → p ≡ q
+          refused-same e = cc
+
+      pub walks-refused : (w' : List ℕ) (x : Result code.Walking Why) (q : Why) → x ≡ Err q → Stepped text w s x w' → TypesWalked more top w₀ w' × TypeAnswers text w' (Err q) (type_from X more S σ (from text at))
+      walks-refused w' x q i Z =
+          let d = Z.says X more top now.t at-now now.going in
+          let n = G.clauses.rows.few in
+          let e : row_bodies text w 0 (length X.clauses) ≡ bodies = bodies_on more top text w₀ w W.kept 0 (length X.clauses) (omega arith) in
+          let k = run_on W.steps (subst (λ (p : Answer Typing). (p >>= λ t. walked (type_move X bodies) W.steps t) ≡ a) now.is W.runs) in
+          let r : type_move X bodies now.t ≡ refused (said_why q) = subst (λ (b : List (List Word)). type_move X b now.t ≡ refused (said_why q)) e (subst (λ (y : Result code.Walking Why). Answers text w' X more top y (type_move X (row_bodies text w 0 (length X.clauses)) now.t)) i d.1) in (
+            types_walked_then more more more top top top w₀ w w' (omega arith) (omega arith) (omega arith) (omega arith) W.kept d.0,
+            refused_ends w' q (type_from X more S σ (from text at)) (subst (λ (p : Answer Typing). (p >>= λ t. walked (type_move X bodies) k.0 t) ≡ a) r k.1),
+          )
+
     -- a type came that no level waits for
-    came-answers : (q : Come) (τ : State) (m : Answer (Got Found)) → q.ty < length τ.table → HoldsState w τ → Lexed text q.at → (m >>= λ x. good (came more x.value x.rest [])) ≡ good (came q.more (found_in_lem q.ty τ) (from text q.at) []) → TypeAnswers text w (type-end.At q.ty q.at) m
+    came-answers : (q : Come) (τ : State) (m : Answer (Got Found)) → q.ty < length τ.table → HoldsState w τ → Lexed text q.at → (m >>= λ x. good (came more x.value x.rest [])) ≡ good (came q.more (found_in_lem q.ty τ) (from text q.at) []) → TypeAnswers text w (Ok (record { ty = q.ty; end = q.at })) m
     came-answers q τ (good g) k H l e =
         let v : g.value ≡ found_in_lem q.ty τ = came-value (good-inj e) in
         let u : g.rest ≡ from text q.at = came-rest (good-inj e) in
@@ -163,42 +181,37 @@ module _ (text w₀ : List ℕ) (at more frame top : ℕ) (C : CanTypeAt text w�
         came-rest e = cc
     came-answers q τ (refused why) k H l e = absurd (refused≢good e)
 
-    came-ends : (q : Come) (τ : State) (K : List TypeLevel) → LevelsHeld text w X τ more top q.more q.top K → ¬ (q.more < more) → q.ty < length τ.table → HoldsState w τ → Lexed text q.at → W.answer ≡ good (came q.more (found_in_lem q.ty τ) (from text q.at) K) → TypeAnswers text w (type-end.At q.ty q.at) (type_from X more S σ (from text at))
+    came-ends : (q : Come) (τ : State) (K : List TypeLevel) → LevelsHeld text w X τ more top q.more q.top K → ¬ (q.more < more) → q.ty < length τ.table → HoldsState w τ → Lexed text q.at → W.answer ≡ good (came q.more (found_in_lem q.ty τ) (from text q.at) K) → TypeAnswers text w (Ok (record { ty = q.ty; end = q.at })) (type_from X more S σ (from text at))
     came-ends q τ [] h n k H l e = came-answers q τ (type_from X more S σ (from text at)) k H l (runs-stay (type_move X bodies) W.steps (came q.more (found_in_lem q.ty τ) (from text q.at) []) a refl (subst (λ (p : Answer Typing). (p >>= λ t. walked (type_move X bodies) W.steps t) ≡ a) e W.runs))
     came-ends q τ (x ∷ K) h n k H l e = absurd (n (omega (arith, (levels_within text w X τ more top q.more q.top (x ∷ K) h).0)))
 
-    refused_ends : (number place : ℕ) (m : Answer (Got Found)) → refuse number place ≡ (m >>= λ x. good (came more x.value x.rest [])) → TypeAnswers text w (type-end.Refused number place) m
-    refused_ends number place (good x) e = absurd (refused≢good e)
-    refused_ends number place (refused why) e = sym (refused-same e)
-      where
-        refused-same : {p q : Refusal} → ◌≡◌ {A = Answer Typing} (refused p) (refused q) → p ≡ q
-        refused-same e = cc
+  ends_by : (w : List ℕ) (q : Come) (left : ℕ) (W : Walks text w₀ X a more top w (walking.Came q) left) → going_in (walking.Came q) more ≡ false → TypeAnswers text w (Ok (record { ty = q.ty; end = q.at })) (type_from X more S σ (from text at))
+  ends_by w q left W e = let H = W.held in came-ends w (walking.Came q) left W q H.state H.above H.levels (λ l. omega (arith, ltb-false q.more more e)) H.known H.holds H.lexed H.is
 
-  ends_by : (w : List ℕ) (s : code.Walking) (left : ℕ) (W : Walks text w₀ X a more top w s left) → going_in s more ≡ false → TypeAnswers text w (ended_as s) (type_from X more S σ (from text at))
-  ends_by w (walking.Wanted q) left W e = let z : ◌≡◌ {A = ℕ} 0 1 = cc in absurd (omega arith)
-  ends_by w (walking.Came q) left W e = let H = W.held in came-ends w (walking.Came q) left W q H.state H.above H.levels (λ l. omega (arith, ltb-false q.more more e)) H.known H.holds H.lexed H.is
-  ends_by w (walking.Refused n p) left W e = refused_ends w (walking.Refused n p) left W n p (type_from X more S σ (from text at)) (subst (λ (x : Answer Typing). (x >>= λ t. walked (type_move X bodies) W.steps t) ≡ a) W.held W.runs)
+  pub walks_end : (w : List ℕ) (s : code.Walking) (left : ℕ) → Walks text w₀ X a more top w s left → going_in s more ≡ false → (q : Come) → s ≡ walking.Came q → TypeAnswers text w (Ok (record { ty = q.ty; end = q.at })) (type_from X more S σ (from text at))
+  walks_end w s left W e q i = ends_by w q left (subst (λ (y : code.Walking). Walks text w₀ X a more top w y left) i W) (subst (λ (y : code.Walking). going_in y more ≡ false) i e)
 
-  pub walks_end : (w : List ℕ) (s : code.Walking) (left : ℕ) → Walks text w₀ X a more top w s left → going_in s more ≡ false → (r : type.TypeEnd) → r ≡ ended_as s → TypeAnswers text w r (type_from X more S σ (from text at))
-  walks_end w s left W e r z = subst (λ (y : type.TypeEnd). TypeAnswers text w y (type_from X more S σ (from text at))) (sym z) (ends_by w s left W e)
+-- a type that is wanted goes on
+pub never_wanted : (s : code.Walking) (more : ℕ) (q : Want) → s ≡ walking.Wanted q → going_in s more ≡ false → ⊥
+never_wanted s more q i e = let z : true ≡ false = subst (λ (y : code.Walking). going_in y more ≡ false) i e in let n : ◌≡◌ {A = ℕ} 0 1 = cc in omega arith
 
 -- ---- as a term wants it
 
-module _ (text w : List ℕ) (at more frame top : ℕ) (b : ℕ) (e : End) (E : Ends text b (type_step most_nested false (from text at)) e) where
-  refuses-by : (m : Answer (Got TypeTree)) → rest_of m ≡ refuse e.number e.at → (k : Got TypeTree → Answer (Got Found)) → TypeAnswers text w (type-end.Refused e.number e.at) (m >>= k)
-  refuses-by (good g) z k = absurd (refused≢good (sym z))
-  refuses-by (refused why) z k = same z
+module _ (text w : List ℕ) (at more frame top : ℕ) (b : ℕ) where
+  refuses-by : (q : Why) (m : Answer (Got TypeTree)) → rest_of m ≡ refused (said_why q) → (k : Got TypeTree → Answer (Got Found)) → TypeAnswers text w (Err q) (m >>= k)
+  refuses-by q (good g) z k = absurd (refused≢good (sym z))
+  refuses-by q (refused why) z k = same z
     where
       same : {p q : Refusal} → ◌≡◌ {A = Answer (List Word)} (refused p) (refused q) → p ≡ q
       same z = cc
 
-  pub type_refused : ¬ (e.number ≡ 0) → TypeSays text w at more frame top (type-end.Refused e.number e.at) w
+  pub type_refused : (q : Why) → Ends text b (type_step most_nested false (from text at)) (Err q) → TypeSays text w at more frame top (Err q) w
   unfolding type_from
-  type_refused n = record { walked = types_walked_none more top w; says = λ X S σ G. refuses-by (type_at most_nested false (from text at)) (E.refuses n) (λ t. type_of X more S σ t.value >>= λ x. got x t.rest) }
+  type_refused q E = record { walked = types_walked_none more top w; says = λ X S σ G. refuses-by q (type_at most_nested false (from text at)) E (λ t. type_of X more S σ t.value >>= λ x. got x t.rest) }
 
   reads-by : (us : List Word) (m : Answer (Got TypeTree)) → rest_of m ≡ good us → (g : Got TypeTree) × (m ≡ good g)
   reads-by us (good g) z = (g, refl)
   reads-by us (refused why) z = absurd (refused≢good z)
 
-  pub type_read_there : CanType text w at more frame top → e.number ≡ 0 → CanTypeAt text w at more frame top
-  type_read_there C z = let r = reads-by (from text e.at) (type_at most_nested false (from text at)) (E.reaches z).is in record { can = C; tree = r.0; reads = r.1 }
+  pub type_read_there : CanType text w at more frame top → (end : ℕ) → Ends text b (type_step most_nested false (from text at)) (Ok end) → CanTypeAt text w at more frame top
+  type_read_there C end E = let r = reads-by (from text end) (type_at most_nested false (from text at)) E.is in record { can = C; tree = r.0; reads = r.1 }

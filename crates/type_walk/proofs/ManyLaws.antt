@@ -8,7 +8,14 @@ use native.Mathlib.Decide.{dec_le}
 use native.Mathlib.Numerals.{add-one}
 use lib.Dec.{T, leb, leb→le}
 use lib.ListN.{length}
-use Rattle.calculus.specs.Answer.{Answer, good, refused, ◌>>=◌, refuse, need, Refusal}
+use borrow.Author.Tests.{le-leb, lt-leb}
+use Rattle.std.proofs.Common.{Result, Ok, Err}
+use Rattle.answers.specs.declared.Reason.{Reason}
+use Rattle.answers.specs.declared.Refusal.{Refusal as Why}
+use Rattle.answers.specs.Refusals.{refusal_at, said_why}
+use Rattle.walks.specs.declared.TypeEnd.{TypeEnd}
+use Rattle.walks.specs.declared.TypesEnd.{TypesEnd}
+use Rattle.calculus.specs.Answer.{Answer, good, refused, ◌>>=◌, need, Refusal}
 use Rattle.calculus.proofs.Answers.{good-inj, refused≢good}
 use Rattle.notation_calculus.specs.Words.{comma, square, endSquare, Word}
 use Rattle.notation_calculus.specs.Trees.{TypeTree, TypeTrees, no_types, Text}
@@ -17,7 +24,6 @@ use Rattle.notation_calculus.specs.Making.{State, Found, Scope, FoundAll, found_
 use Rattle.notation_machine.specs.TypeFrom.{type_from, types_from}
 use Rattle.words.specs.Next.{Said}
 use Rattle.words.specs.Lexed.{from, Lexed, Stands}
-use Rattle.grammar.specs.declared.steps.End.{End}
 use Rattle.grammar.specs.Ends.{rest_of, type_step, Ends}
 use Rattle.grammar.specs.Skips.{group_end}
 use Rattle.words.specs.Marks.{Marks}
@@ -29,16 +35,12 @@ use Rattle.made_types.proofs.Keeping.{state_kept}
 use Rattle.clauses.specs.Meant.{values_in}
 use Rattle.scopes.specs.Entries.{place_in, value_at, Places, OnlyEntries, with_entry}
 use Rattle.scopes.proofs.KeepLaws.{entry_place, entry_value, entry_only}
-use Rattle.walks.specs.declared.TypeEnd as type
-use Rattle.walks.specs.declared.TypeEnd.TheVariants as type-end
-use Rattle.walks.specs.declared.TypesEnd as types-code
-use Rattle.walks.specs.declared.TypesEnd.TheVariants as types_end_lem
 use Rattle.walks.specs.Walkable.{Walkable}
 use Rattle.walks.specs.Walked.{TypesWalked}
 use Rattle.walks.specs.Says.{TypeCame, TypeAnswers, CanType, TypeSays, TypesAnswer, TypesSay}
 use Rattle.walks.proofs.Kept.{types_walked_none, types_walked_then, types_of_entries, walkable_on}
 use Rattle.type_walk.specs.Holding.{AllBelow}
-use Rattle.type_walk.specs.Many.{ListRead, CanTypeAll, AllTypesSay, types_refused}
+use Rattle.type_walk.specs.Many.{ListRead, CanTypeAll, AllTypesSay}
 use Rattle.type_walk.proofs.HoldLaws.{all_below_more}
 use Rattle.type_walk.proofs.NameLaws.{walkable_waiting}
 
@@ -154,13 +156,13 @@ module _ (text w₀ : List ℕ) (more frame top name : ℕ) (X : Text) (S : Scop
         let n : entries S + suc i ≡ top + (i + 1) = omega (arith, G.scope.entries) in
         L.total ∙ ap (λ (ts : List TypeTree). left i L.state ts (values_in w top i) (behind L.trees.rest)) F.value ∙ ap (λ (c : Bool). behindRoom c (go (waiting S i) L.state F.first.value) (values_in w top i) (behind L.trees.rest)) (ap (λ (k : ℕ). leb k most_entries) n ∙ sym e)
 
-    pub listing_full : (b : Bool) → b ≡ leb (top + (i + 1)) most_entries → b ≡ false → TypesAnswer text w top (types_end_lem.Refused 34 name) a
-    listing_full b e f = subst (TypesAnswer text w top (types_end_lem.Refused 34 name)) (sym (total-by false (sym f ∙ e))) refl
+    pub listing_full : (b : Bool) → b ≡ leb (top + (i + 1)) most_entries → b ≡ false → TypesAnswer text w top (Err (refusal_at Reason.TextLimit name)) a
+    listing_full b e f = subst (TypesAnswer text w top (Err (refusal_at Reason.TextLimit name))) (sym (total-by false (sym f ∙ e))) refl
 
     pub listing-can : more ≤ most_nested → CanType text w p more frame (top + i)
     listing-can levels = record { walk = record { X = X; S = waiting S i; σ = L.state; walkable = walkable-next }; lexed = L.lexed; above = above; levels = levels }
 
-    module _ (b : Bool) (is_b : b ≡ leb (top + (i + 1)) most_entries) (roomy : b ≡ true) (r : type.TypeEnd) (w₁ : List ℕ) (Z : TypeSays text w p more frame (top + i) r w₁) where
+    module _ (b : Bool) (is_b : b ≡ leb (top + (i + 1)) most_entries) (roomy : b ≡ true) (r : Result TypeEnd Why) (w₁ : List ℕ) (Z : TypeSays text w p more frame (top + i) r w₁) where
       abbrev m : Answer Found
       m = go (waiting S i) L.state F.first.value
 
@@ -171,23 +173,28 @@ module _ (text w₀ : List ℕ) (more frame top name : ℕ) (X : Text) (S : Scop
       total-now : a ≡ behindRoom true m (values_in w top i) (behind L.trees.rest)
       total-now = total-by true (sym roomy ∙ is_b)
 
-      refused-by : (n pl : ℕ) (q : Answer Found) → TypeAnswers text w₁ (type-end.Refused n pl) (q >>= λ y. got y F.first.rest) → TypesAnswer text w₁ top (types_end_lem.Refused n pl) (behindRoom true q (values_in w top i) (behind L.trees.rest))
-      refused-by n pl (good y) e = absurd e
-      refused-by n pl (refused why) e = e
+      refused-by : (bad : Why) (q : Answer Found) → TypeAnswers text w₁ (Err bad) (q >>= λ y. got y F.first.rest) → TypesAnswer text w₁ top (Err bad) (behindRoom true q (values_in w top i) (behind L.trees.rest))
+      refused-by bad (good y) e = absurd e
+      refused-by bad (refused why) e = e
 
-      pub listing-refused : (n pl : ℕ) → r ≡ type-end.Refused n pl → (v : types-code.TypesEnd) → v ≡ types_refused r → TypesAnswer text w₁ top v a
-      listing-refused n pl e v z =
-          subst (λ (y : types-code.TypesEnd). TypesAnswer text w₁ top y a) (sym (z ∙ ap types_refused e)) (subst (TypesAnswer text w₁ top (types_end_lem.Refused n pl)) (sym total-now) (refused-by n pl m (subst (λ (y : type.TypeEnd). TypeAnswers text w₁ y (m >>= λ y. got y F.first.rest)) e answers)))
+      pub listing-refused : (bad : Why) → r ≡ Err bad → TypesAnswer text w₁ top (Err bad) a
+      listing-refused bad e = subst (TypesAnswer text w₁ top (Err bad)) (sym total-now) (refused-by bad m (subst (λ (y : Result TypeEnd Why). TypeAnswers text w₁ y (m >>= λ y. got y F.first.rest)) e answers))
 
-      there_by : (ty end : ℕ) (q : Answer Found) → TypeAnswers text w₁ (type-end.At ty end) (q >>= λ y. got y F.first.rest) → Lexed text end × (ty < 256)
-      there_by ty end (good y) c = let few = c.state.types.ok.few in (c.rest.lexed, omega (arith, c.known))
-      there_by ty end (refused why) c = absurd c
+      there_by : (t : TypeEnd) (q : Answer Found) → TypeAnswers text w₁ (Ok t) (q >>= λ y. got y F.first.rest) → Lexed text t.end × (t.ty < 256)
+      there_by t (good y) c = let few = c.state.types.ok.few in (c.rest.lexed, omega (arith, c.known))
+      there_by t (refused why) c = absurd c
 
       -- the offset behind a type, and its number
-      pub listing-there : (ty end : ℕ) → r ≡ type-end.At ty end → Lexed text end × (ty < 256)
-      listing-there ty end e = there_by ty end m (subst (λ (y : type.TypeEnd). TypeAnswers text w₁ y (m >>= λ y. got y F.first.rest)) e answers)
+      pub listing-there : (t : TypeEnd) → r ≡ Ok t → Lexed text t.end × (t.ty < 256)
+      listing-there t e = there_by t m (subst (λ (y : Result TypeEnd Why). TypeAnswers text w₁ y (m >>= λ y. got y F.first.rest)) e answers)
 
-      module _ (ty end u : ℕ) (is-r : r ≡ type-end.At ty end) (is-ty : u ≡ ty) (w₂ : List ℕ) (stored : w₂ ≡ with_entry w₁ (top + i) 0 u) (v : Said) (s : Stands text end v) where
+      module _ (came : TypeEnd) (u : ℕ) (is-r : r ≡ Ok came) (is-ty : u ≡ came.ty) (w₂ : List ℕ) (stored : w₂ ≡ with_entry w₁ (top + i) 0 u) (v : Said) (s : Stands text came.end v) where
+        abbrev ty : ℕ
+        ty = came.ty
+
+        abbrev end : ℕ
+        end = came.end
+
         room-now : top + i < most_entries
         room-now = omega (arith, leb→le (top + (i + 1)) most_entries (subst T (sym roomy ∙ is_b) tt))
 
@@ -228,23 +235,23 @@ module _ (text w₀ : List ℕ) (more frame top name : ℕ) (X : Text) (S : Scop
         record Arrived (q : Answer Found) : Type 0 where
           found : Found
           is : q ≡ good found
-          came : TypeCame text w₁ ty end (record { value = found; rest = F.first.rest })
+          comes : TypeCame text w₁ ty end (record { value = found; rest = F.first.rest })
 
-        arrived-by : (q : Answer Found) → TypeAnswers text w₁ (type-end.At ty end) (q >>= λ y. got y F.first.rest) → Arrived q
-        arrived-by (good y) c = record { found = y; is = refl; came = c }
+        arrived-by : (q : Answer Found) → TypeAnswers text w₁ (Ok came) (q >>= λ y. got y F.first.rest) → Arrived q
+        arrived-by (good y) c = record { found = y; is = refl; comes = c }
         arrived-by (refused why) c = absurd c
 
         D : Arrived m
-        D = arrived-by m (subst (λ (y : type.TypeEnd). TypeAnswers text w₁ y (m >>= λ y. got y F.first.rest)) is-r answers)
+        D = arrived-by m (subst (λ (y : Result TypeEnd Why). TypeAnswers text w₁ y (m >>= λ y. got y F.first.rest)) is-r answers)
 
         words-now : F.first.rest ≡ from text end
-        words-now = D.came.rest.is
+        words-now = D.comes.rest.is
 
         grown : length L.state.table ≤ length D.found.state.table
-        grown = omega (arith, L.holds.types.count, D.came.state.types.count, Z.walked.more_types)
+        grown = omega (arith, L.holds.types.count, D.comes.state.types.count, Z.walked.more_types)
 
         known-now : AllBelow (length D.found.state.table) (values_in w₂ top (i + 1))
-        known-now = subst (AllBelow (length D.found.state.table)) (sym values-now) (all_end (length D.found.state.table) (values_in w top i) ty (all_below_more (length L.state.table) (length D.found.state.table) grown (values_in w top i) L.known) D.came.known)
+        known-now = subst (AllBelow (length D.found.state.table)) (sym values-now) (all_end (length D.found.state.table) (values_in w top i) ty (all_below_more (length L.state.table) (length D.found.state.table) grown (values_in w top i) L.known) D.comes.known)
 
         -- the others behind it
         total-next : a ≡ left (i + 1) D.found.state F.others (values_in w₂ top (i + 1)) (behind L.trees.rest)
@@ -255,7 +262,7 @@ module _ (text w₀ : List ℕ) (more frame top name : ℕ) (X : Text) (S : Scop
             ∙ ap (λ (j : ℕ). left j D.found.state F.others (values_in w₂ top (i + 1)) (behind L.trees.rest)) (sym (add-one i))
           where
             joined_by : (n : Answer FoundAll) → ((n >>= λ xs. good (record { types = D.found.type ∷ xs.types; state = xs.state })) >>= λ xs. got (with_before (values_in w top i) xs) (behind L.trees.rest)) ≡ (n >>= λ xs. got (with_before (values_in w₂ top (i + 1)) xs) (behind L.trees.rest))
-            joined_by (good xs) = ap (λ (ts : List ℕ). got (record { types = ts; state = xs.state }) (behind L.trees.rest)) (sym (append_assoc (values_in w top i) (D.found.type ∷ []) xs.types) ∙ ap (λ (t : ℕ). (values_in w top i ++ t ∷ []) ++ xs.types) (sym D.came.type) ∙ ap (λ (vs : List ℕ). vs ++ xs.types) (sym values-now))
+            joined_by (good xs) = ap (λ (ts : List ℕ). got (record { types = ts; state = xs.state }) (behind L.trees.rest)) (sym (append_assoc (values_in w top i) (D.found.type ∷ []) xs.types) ∙ ap (λ (t : ℕ). (values_in w top i ++ t ∷ []) ++ xs.types) (sym D.comes.type) ∙ ap (λ (vs : List ℕ). vs ++ xs.types) (sym values-now))
             joined_by (refused why) = refl
 
         pub listing-more : v.code ≡ 14 → Listing a w₂ (i + 1) v.end
@@ -264,7 +271,7 @@ module _ (text w₀ : List ℕ) (more frame top name : ℕ) (X : Text) (S : Scop
             record {
               kept = listing-walked;
               state = D.found.state;
-              holds = state-now D.found.state D.came.state;
+              holds = state-now D.found.state D.comes.state;
               places = places-now;
               known = known-now;
               lexed = o.lexed;
@@ -274,16 +281,16 @@ module _ (text w₀ : List ℕ) (more frame top name : ℕ) (X : Text) (S : Scop
               total = total-next;
             }
 
-        pub listing-last : ¬ (v.code ≡ 14) → TypesAnswer text w₂ top (types_end_lem.At (i + 1) v.end) a
+        pub listing-last : ¬ (v.code ≡ 14) → TypesAnswer text w₂ top (Ok (record { count = i + 1; end = v.end })) a
         listing-last c =
             let l = F.last (ap (is comma) words-now ∙ is_no text end v s comma c) in
             let here : L.trees.rest ≡ from text end = l.1 ∙ words-now in
             let o = s.onward (λ z. end-not z (sym (ap (is endSquare) here) ∙ L.list.closed)) in
-            subst (TypesAnswer text w₂ top (types_end_lem.At (i + 1) v.end)) (sym (total-next ∙ ap (λ (ts : List TypeTree). left (i + 1) D.found.state ts (values_in w₂ top (i + 1)) (behind L.trees.rest)) l.0)) (record {
+            subst (TypesAnswer text w₂ top (Ok (record { count = i + 1; end = v.end }))) (sym (total-next ∙ ap (λ (ts : List TypeTree). left (i + 1) D.found.state ts (values_in w₂ top (i + 1)) (behind L.trees.rest)) l.0)) (record {
               types = sym (append-none (values_in w₂ top (i + 1)));
               known = subst (AllBelow (length D.found.state.table)) (sym (append-none (values_in w₂ top (i + 1)))) known-now;
               few = places-now.most;
-              state = state-now D.found.state D.came.state;
+              state = state-now D.found.state D.comes.state;
               rest = record { is = ap behind here ∙ o.rest; lexed = o.lexed };
             })
           where
@@ -317,29 +324,28 @@ module _ (text w₀ : List ℕ) (at more frame top name : ℕ) (C : CanTypeAll t
     pub keeps-can : CanType text w p more frame (top + i)
     keeps-can = listing-can text w₀ more frame top name C.can.walk.X C.can.walk.S C.can.walk.σ C.can.walk.walkable C.can.above _ w i p L C.can.levels
 
-    module _ (b : Bool) (is_b : b ≡ leb (top + (i + 1)) most_entries) where
-      pub keeps-full : b ≡ false → AllTypesSay text w₀ at more frame top name (types_end_lem.Refused 34 name) w
-      keeps-full f = record { walked = L.kept; says = λ X S σ G rounds g R. listing_full text w₀ more frame top name X S σ G C.can.above _ w i p (K X S σ G rounds g R) b is_b f }
+    pub keeps-full : most_entries ≤ top + i → AllTypesSay text w₀ at more frame top name (Err (refusal_at Reason.TextLimit name)) w
+    keeps-full f = record { walked = L.kept; says = λ X S σ G rounds g R. listing_full text w₀ more frame top name X S σ G C.can.above _ w i p (K X S σ G rounds g R) false (sym (lt-leb (top + (i + 1)) most_entries (omega arith))) refl }
 
-      pub keeps-room : b ≡ true → top + i + 1 ≤ most_entries
-      keeps-room o = omega (arith, leb→le (top + (i + 1)) most_entries (subst T (sym o ∙ is_b) tt))
+    module _ (o : top + i < most_entries) (r : Result TypeEnd Why) (w₁ : List ℕ) (Z : TypeSays text w p more frame (top + i) r w₁) where
+      room : true ≡ leb (top + (i + 1)) most_entries
+      room = sym (le-leb (top + (i + 1)) most_entries (omega arith))
 
-      module _ (o : b ≡ true) (r : type.TypeEnd) (w₁ : List ℕ) (Z : TypeSays text w p more frame (top + i) r w₁) where
-        pub keeps-long : making_size ≤ length w₁
-        keeps-long = omega (arith, L.places.room, Z.walked.same)
+      pub keeps-long : making_size ≤ length w₁
+      keeps-long = omega (arith, L.places.room, Z.walked.same)
 
-        pub keeps-there : (ty end : ℕ) → r ≡ type-end.At ty end → Lexed text end × (ty < 256)
-        keeps-there = listing-there text w₀ more frame top name C.can.walk.X C.can.walk.S C.can.walk.σ C.can.walk.walkable C.can.above _ w i p L b is_b o r w₁ Z
+      pub keeps-there : (t : TypeEnd) → r ≡ Ok t → Lexed text t.end × (t.ty < 256)
+      keeps-there = listing-there text w₀ more frame top name C.can.walk.X C.can.walk.S C.can.walk.σ C.can.walk.walkable C.can.above _ w i p L true room refl r w₁ Z
 
-        pub keeps-refused : (n pl : ℕ) → r ≡ type-end.Refused n pl → (v : types-code.TypesEnd) → v ≡ types_refused r → AllTypesSay text w₀ at more frame top name v w₁
-        keeps-refused n pl e v z = record { walked = types_walked_then more more more top (top + i) top w₀ w w₁ (omega arith) (omega arith) (omega arith) (omega arith) L.kept Z.walked; says = λ X S σ G rounds g R. listing-refused text w₀ more frame top name X S σ G C.can.above _ w i p (K X S σ G rounds g R) b is_b o r w₁ Z n pl e v z }
+      pub keeps-refused : (bad : Why) → r ≡ Err bad → AllTypesSay text w₀ at more frame top name (Err bad) w₁
+      keeps-refused bad e = record { walked = types_walked_then more more more top (top + i) top w₀ w w₁ (omega arith) (omega arith) (omega arith) (omega arith) L.kept Z.walked; says = λ X S σ G rounds g R. listing-refused text w₀ more frame top name X S σ G C.can.above _ w i p (K X S σ G rounds g R) true room refl r w₁ Z bad e }
 
-        module _ (ty end u : ℕ) (is-r : r ≡ type-end.At ty end) (is-ty : u ≡ ty) (w₂ : List ℕ) (stored : w₂ ≡ with_entry w₁ (top + i) 0 u) (v : Said) (s : Stands text end v) where
-          pub keeps-more : v.code ≡ 14 → Keeps w₂ (i + 1) v.end
-          keeps-more c = λ X S σ G rounds g R. listing-more text w₀ more frame top name X S σ G C.can.above _ w i p (K X S σ G rounds g R) b is_b o r w₁ Z ty end u is-r is-ty w₂ stored v s c
+      module _ (came : TypeEnd) (u : ℕ) (is-r : r ≡ Ok came) (is-ty : u ≡ came.ty) (w₂ : List ℕ) (stored : w₂ ≡ with_entry w₁ (top + i) 0 u) (v : Said) (s : Stands text came.end v) where
+        pub keeps-more : v.code ≡ 14 → Keeps w₂ (i + 1) v.end
+        keeps-more c = λ X S σ G rounds g R. listing-more text w₀ more frame top name X S σ G C.can.above _ w i p (K X S σ G rounds g R) true room refl r w₁ Z came u is-r is-ty w₂ stored v s c
 
-          pub keeps-last : ¬ (v.code ≡ 14) → AllTypesSay text w₀ at more frame top name (types_end_lem.At (i + 1) v.end) w₂
-          keeps-last c = record { walked = listing-walked text w₀ more frame top name C.can.walk.X C.can.walk.S C.can.walk.σ C.can.walk.walkable C.can.above _ w i p L b is_b o r w₁ Z ty end u is-r is-ty w₂ stored v s; says = λ X S σ G rounds g R. listing-last text w₀ more frame top name X S σ G C.can.above _ w i p (K X S σ G rounds g R) b is_b o r w₁ Z ty end u is-r is-ty w₂ stored v s c }
+        pub keeps-last : ¬ (v.code ≡ 14) → AllTypesSay text w₀ at more frame top name (Ok (record { count = i + 1; end = v.end })) w₂
+        keeps-last c = record { walked = listing-walked text w₀ more frame top name C.can.walk.X C.can.walk.S C.can.walk.σ C.can.walk.walkable C.can.above _ w i p L true room refl r w₁ Z came u is-r is-ty w₂ stored v s; says = λ X S σ G rounds g R. listing-last text w₀ more frame top name X S σ G C.can.above _ w i p (K X S σ G rounds g R) true room refl r w₁ Z came u is-r is-ty w₂ stored v s c }
 
 -- ---- as a term wants them
 
@@ -348,29 +354,29 @@ abbrev arguments_if : List Word → Bool → Answer (Got TypeTrees)
 arguments_if ws c = cond c (list_from read (length ws) (behind ws) >>= λ ts. expect endSquare ts.rest >>= λ after. got (types_of ts.value) after) (got no_types ws)
 
 -- there are none
-pub types-none : (text w : List ℕ) (at more frame top name : ℕ) (v : Said) → Marks text at v → CanType text w at more frame top → ¬ (v.code ≡ 17) → TypesSay text w at more frame top name (types_end_lem.At 0 at) w
+pub types-none : (text w : List ℕ) (at more frame top name : ℕ) (v : Said) → Marks text at v → CanType text w at more frame top → ¬ (v.code ≡ 17) → TypesSay text w at more frame top name (Ok (record { count = 0; end = at })) w
 unfolding types_from
 types-none text w at more frame top name v m C n = record {
   walked = types_walked_none more top w;
   says = λ X S σ G.
       let z : top ≡ top + 0 = omega arith in
-      subst (λ (q : Answer (Got TypeTrees)). TypesAnswer text w top (types_end_lem.At 0 at) (q >>= λ ts. found_all (λ R τ t. type_of X more R τ t) S name 0 σ ts.value >>= λ xs. got xs ts.rest)) (sym (ap (arguments_if (from text at)) (mark_no text at v square m.square n))) (record { types = refl; known = tt; few = omega (arith, G.scope.places.most); state = G.state; rest = record { is = refl; lexed = C.lexed } });
+      subst (λ (q : Answer (Got TypeTrees)). TypesAnswer text w top (Ok (record { count = 0; end = at })) (q >>= λ ts. found_all (λ R τ t. type_of X more R τ t) S name 0 σ ts.value >>= λ xs. got xs ts.rest)) (sym (ap (arguments_if (from text at)) (mark_no text at v square m.square n))) (record { types = refl; known = tt; few = omega (arith, G.scope.places.most); state = G.state; rest = record { is = refl; lexed = C.lexed } });
 }
 
-module _ (text w : List ℕ) (at more frame top name : ℕ) (b : ℕ) (e : End) (E : Ends text b (group_end square endSquare (type_step most_nested false) (from text at)) e) where
+module _ (text w : List ℕ) (at more frame top name : ℕ) (b : ℕ) where
   rest-is : rest_of (arguments_at read (from text at)) ≡ group_end square endSquare (type_step most_nested false) (from text at)
   rest-is = group_rest read (type_step most_nested false) (λ us. refl) square endSquare types_of no_types (from text at)
 
-  refuses-by : (m : Answer (Got TypeTrees)) → rest_of m ≡ refuse e.number e.at → (k : Got TypeTrees → Answer (Got FoundAll)) → TypesAnswer text w top (types_end_lem.Refused e.number e.at) (m >>= k)
-  refuses-by (good g) z k = absurd (refused≢good (sym z))
-  refuses-by (refused why) z k = same z
+  refuses-by : (q : Why) (m : Answer (Got TypeTrees)) → rest_of m ≡ refused (said_why q) → (k : Got TypeTrees → Answer (Got FoundAll)) → TypesAnswer text w top (Err q) (m >>= k)
+  refuses-by q (good g) z k = absurd (refused≢good (sym z))
+  refuses-by q (refused why) z k = same z
     where
       same : {p q : Refusal} → ◌≡◌ {A = Answer (List Word)} (refused p) (refused q) → p ≡ q
       same z = cc
 
-  pub types_refused_there : ¬ (e.number ≡ 0) → TypesSay text w at more frame top name (types_end_lem.Refused e.number e.at) w
+  pub types_refused_there : (q : Why) → Ends text b (group_end square endSquare (type_step most_nested false) (from text at)) (Err q) → TypesSay text w at more frame top name (Err q) w
   unfolding types_from
-  types_refused_there n = record { walked = types_walked_none more top w; says = λ X S σ G. refuses-by (arguments_at read (from text at)) (rest-is ∙ E.refuses n) (λ ts. found_all (λ R τ t. type_of X more R τ t) S name 0 σ ts.value >>= λ xs. got xs ts.rest) }
+  types_refused_there q E = record { walked = types_walked_none more top w; says = λ X S σ G. refuses-by q (arguments_at read (from text at)) (rest-is ∙ E) (λ ts. found_all (λ R τ t. type_of X more R τ t) S name 0 σ ts.value >>= λ xs. got xs ts.rest) }
 
   module _ (v : Said) (s : Stands text at v) where
     abbrev ws : List Word
@@ -393,9 +399,9 @@ module _ (text w : List ℕ) (at more frame top name : ℕ) (b : ℕ) (e : End) 
         by true c z = record { trees = g; is-list = refl; closes = c }
         by false c z = absurd (refused≢good z)
 
-    module _ (C : CanType text w at more frame top) (zero_number : e.number ≡ 0) (c : v.code ≡ 17) where
+    module _ (C : CanType text w at more frame top) (end : ℕ) (E : Ends text b (group_end square endSquare (type_step most_nested false) (from text at)) (Ok end)) (c : v.code ≡ 17) where
       O : Closed list
-      O = closed_by_lem (from text e.at) list (sym (ap (λ (q : Bool). rest_of (arguments_if ws q)) (is_yes text at v s square c)) ∙ rest-is ∙ (E.reaches zero_number).is)
+      O = closed_by_lem (from text end) list (sym (ap (λ (q : Bool). rest_of (arguments_if ws q)) (is_yes text at v s square c)) ∙ rest-is ∙ E.is)
 
       behind-is : behind ws ≡ from text v.end
       behind-is = (s.onward (λ z. omega arith)).rest
@@ -409,6 +415,6 @@ module _ (text w : List ℕ) (at more frame top name : ℕ) (b : ℕ) (e : End) 
       whole : got (types_of O.trees.value) (behind O.trees.rest) ≡ arguments_at read ws
       whole = sym (ap (arguments_if ws) (is_yes text at v s square c) ∙ ap (λ (m : Answer (Got (List TypeTree))). m >>= λ ts. expect endSquare ts.rest >>= λ after. got (types_of ts.value) after) O.is-list ∙ ap (λ (d : Bool). (need d 32 (place O.trees.rest) >>= λ _. good (behind O.trees.rest)) >>= λ after. got (types_of O.trees.value) after) O.closes)
 
-      pub types-some : (r : types-code.TypesEnd) (w' : List ℕ) → AllTypesSay text w v.end more frame top name r w' → TypesSay text w at more frame top name r w'
+      pub types-some : (r : Result TypesEnd Why) (w' : List ℕ) → AllTypesSay text w v.end more frame top name r w' → TypesSay text w at more frame top name r w'
       unfolding types_from
       types-some r w' Z = record { walked = Z.walked; says = λ X S σ G. subst (λ (q : Answer (Got TypeTrees)). TypesAnswer text w' top r (q >>= λ ts. found_all (λ R τ t. type_of X more R τ t) S name 0 σ ts.value >>= λ xs. got xs ts.rest)) whole (Z.says X S σ G (length ws) O.trees list-there) }

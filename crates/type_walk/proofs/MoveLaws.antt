@@ -8,7 +8,10 @@ use native.Mathlib.Numerals.{add-one}
 use lib.Dec.{eqb}
 use lib.ListN.{length, drop, length-drop}
 use borrow.Author.Tests.{eqb-true, eqb-false}
-use Rattle.calculus.specs.Answer.{Answer, good, refuse}
+use Rattle.std.proofs.Common.{Result, Ok, Err}
+use Rattle.answers.specs.declared.Refusal.{Refusal}
+use Rattle.answers.specs.Refusals.{said_why}
+use Rattle.calculus.specs.Answer.{Answer, good, refused}
 use Rattle.notation_calculus.specs.Words.{ends_line, blank, first, gap, arrow, linear, times, Word, word_at, words_from}
 use Rattle.notation_calculus.specs.Trees.{Form, product, Text}
 use Rattle.notation_calculus.specs.Trees as Trees
@@ -27,8 +30,7 @@ use Rattle.walks.specs.Walked.{TypesWalked}
 use Rattle.walks.proofs.Kept.{types_walked_none, types_walked_then, bodies_on}
 use Rattle.type_walk.specs.declared.levels.Here.{Here}
 use Rattle.type_walk.specs.declared.levels.Walking as code
-use Rattle.type_walk.specs.declared.levels.Walking.TheVariants as walking
-use Rattle.type_walk.specs.Holding.{here_with, AtLevel, Answered}
+use Rattle.type_walk.specs.Holding.{here_with, AtLevel, Answers}
 use Rattle.type_walk.specs.Moves.{CanMove, Waited, Moving, Moved, Known, found_in_lem, done_at, form_by, side_after, arrow_after, done_after, side_ask}
 use Rattle.type_walk.proofs.HoldLaws.{at_on}
 use Rattle.type_walk.proofs.AskLaws.{can_wait, ask_held, places-none, waited_moved}
@@ -66,12 +68,12 @@ onward text at v s n e = s.onward (λ z. omega arith)
 
 -- ---- parts in one another
 
-pub answered_as : (text w : List ℕ) (X : Text) (m₀ base : ℕ) (r : code.Walking) {p q : Answer Typing} → p ≡ q → Answered text w X m₀ base r q → Answered text w X m₀ base r p
-answered_as text w X m₀ base r e a = subst (λ (x : Answer Typing). Answered text w X m₀ base r x) (sym e) a
+pub answered_as : (text w : List ℕ) (X : Text) (m₀ base : ℕ) (r : Result code.Walking Refusal) {p q : Answer Typing} → p ≡ q → Answers text w X m₀ base r q → Answers text w X m₀ base r p
+answered_as text w X m₀ base r e a = subst (λ (x : Answer Typing). Answers text w X m₀ base r x) (sym e) a
 
 -- the same machine, written otherwise
 pub moved_by :
-    {text w w' : List ℕ} {h : Here} {r : code.Walking} (P Q : State → Type 0) (go go' : Moving)
+    {text w w' : List ℕ} {h : Here} {r : Result code.Walking Refusal} (P Q : State → Type 0) (go go' : Moving)
     → ((X : Text) (m₀ base : ℕ) (σ : State) (S : Scope) (K : List TypeLevel) → AtLevel text w X m₀ base σ h S K → Q σ → P σ × ((bodies : List (List Word)) → go' X bodies (here_with h S K) σ ≡ go X bodies (here_with h S K) σ))
     → Moved text w h P go r w' → Moved text w h Q go' r w'
 moved_by {text} {w} {w'} {h} {r} P Q go go' f M = record {
@@ -80,15 +82,15 @@ moved_by {text} {w} {w'} {h} {r} P Q go go' f M = record {
 }
 
 -- .. of which nothing more has to be known
-pub moved_as : {text w w' : List ℕ} {h : Here} {r : code.Walking} (P : State → Type 0) (go go' : Moving) → ((X : Text) (bodies : List (List Word)) (σ : State) (S : Scope) (K : List TypeLevel) → go' X bodies (here_with h S K) σ ≡ go X bodies (here_with h S K) σ) → Moved text w h P go r w' → Moved text w h P go' r w'
+pub moved_as : {text w w' : List ℕ} {h : Here} {r : Result code.Walking Refusal} (P : State → Type 0) (go go' : Moving) → ((X : Text) (bodies : List (List Word)) (σ : State) (S : Scope) (K : List TypeLevel) → go' X bodies (here_with h S K) σ ≡ go X bodies (here_with h S K) σ) → Moved text w h P go r w' → Moved text w h P go' r w'
 moved_as P go go' f M = moved_by P P go go' (λ X m₀ base σ S K A q. (q, λ bodies. f X bodies σ S K)) M
 
-pub refused_moved : {text w : List ℕ} {h : Here} (P : State → Type 0) (go : Moving) (number at : ℕ) → ((X : Text) (m₀ base : ℕ) (σ : State) (S : Scope) (K : List TypeLevel) → AtLevel text w X m₀ base σ h S K → P σ → (bodies : List (List Word)) → go X bodies (here_with h S K) σ ≡ refuse number at) → Moved text w h P go (walking.Refused number at) w
-refused_moved {text} {w} {h} P go number at f = record { walked = types_walked_none (h.more + 1) h.top w; says = λ X m₀ base σ S K A q. f X m₀ base σ S K A q (row_bodies text w 0 (length X.clauses)) }
+pub refused_moved : {text w : List ℕ} {h : Here} (P : State → Type 0) (go : Moving) (e : Refusal) → ((X : Text) (m₀ base : ℕ) (σ : State) (S : Scope) (K : List TypeLevel) → AtLevel text w X m₀ base σ h S K → P σ → (bodies : List (List Word)) → go X bodies (here_with h S K) σ ≡ refused (said_why e)) → Moved text w h P go (Err e) w
+refused_moved {text} {w} {h} P go e f = record { walked = types_walked_none (h.more + 1) h.top w; says = λ X m₀ base σ S K A q. f X m₀ base σ S K A q (row_bodies text w 0 (length X.clauses)) }
 
 -- behind a store that leaves the state as it was
 pub moved_after :
-    {text w w₁ w' : List ℕ} {h : Here} {r : code.Walking} (P Q : State → Type 0) (go go' : Moving) → TypesWalked (h.more + 1) h.top w w₁ → ((σ : State) → HoldsState w σ → HoldsState w₁ σ)
+    {text w w₁ w' : List ℕ} {h : Here} {r : Result code.Walking Refusal} (P Q : State → Type 0) (go go' : Moving) → TypesWalked (h.more + 1) h.top w w₁ → ((σ : State) → HoldsState w σ → HoldsState w₁ σ)
     → ((X : Text) (m₀ base : ℕ) (σ : State) (S : Scope) (K : List TypeLevel) → AtLevel text w X m₀ base σ h S K → Q σ → P σ × ((bodies : List (List Word)) → go' X bodies (here_with h S K) σ ≡ go X bodies (here_with h S K) σ))
     → Moved text w₁ h P go r w' → Moved text w h Q go' r w'
 moved_after {text} {w} {w₁} {w'} {h} {r} P Q go go' W stays f M = record {
@@ -102,8 +104,8 @@ moved_after {text} {w} {w₁} {w'} {h} {r} P Q go go' W stays f M = record {
 
 -- ---- a type that is done
 
-pub done_moved : (text w : List ℕ) (h : Here) (ty at : ℕ) (r : code.Walking) → Lexed text at → r ≡ done_at h ty at → Moved text w h (Known ty) (done_after text ty at) r w
-done_moved text w h ty at r l e = subst (λ (y : code.Walking). Moved text w h (Known ty) (done_after text ty at) y w) (sym e) (record {
+pub done_moved : (text w : List ℕ) (h : Here) (ty at : ℕ) (r : code.Walking) → Lexed text at → r ≡ done_at h ty at → Moved text w h (Known ty) (done_after text ty at) (Ok r) w
+done_moved text w h ty at r l e = subst (λ (y : code.Walking). Moved text w h (Known ty) (done_after text ty at) (Ok y) w) (sym e) (record {
   walked = types_walked_none (h.more + 1) h.top w;
   says = λ X m₀ base σ S K A k. record { state = σ; above = K; is = ap (λ (n : ℕ). good (came n (found_in_lem ty σ) (from text at) K)) (sym (add-one h.more)); known = k; holds = A.walkable.state; lexed = l; levels = A.levels };
 })
@@ -121,7 +123,7 @@ form_number n a b = form_by_lem n (eqb n 3) (eqb n 4) refl refl a b
 pub side_asked :
     (text w w' : List ℕ) (h : Here) (form ty sign end flag : ℕ) (tight : Bool) (r : code.Walking) → CanMove text w h (Known ty) → Lexed text end → 3 ≤ form → form ≤ 5 → flag ≡ flag_number h.tight
     → Waited w h (record { form = form; flag = flag; place = sign; count = 0; node = 0; ty = ty; deep = 0; next = 0 }) (record { more = h.more; tight = tight; frame = h.frame; top = h.top; at = end }) r w'
-    → Moved text w h (Known ty) (side_ask text form tight ty sign end) r w'
+    → Moved text w h (Known ty) (side_ask text form tight ty sign end) (Ok r) w'
 side_asked text w w' h form ty sign end flag tight r C l a b f g =
     let waits = can_wait text w C.X C.m₀ C.base C.σ h C.S C.K C.held in
     waited_moved text w h _ _ r w' (Known ty) (side_ask text form tight ty sign end) waits g (λ X m₀ base σ S K A k. ask_held w h _ waits text X m₀ base σ S K A (other (form_by form) sign ty) tight h.frame h.top end S f (form_number form a b, refl, refl) k (places-none text w h.top A.walkable.scope.places) (omega (arith, A.level)) (omega arith) A.walkable l)
@@ -137,7 +139,7 @@ module _ (text : List ℕ) (at : ℕ) (v : Said) (m : Marks text at v) where
   abbrev arrow_if : ℕ → Bool → Bool → Bool → TypeHere → State → Answer Typing
   arrow_if ty a b c t σ = good (cond a (type_done t (found_in_lem ty σ) ws) (cond b (ask_side t Trees.arrow false (found_in_lem ty σ) ws) (cond c (ask_side t Trees.linear false (found_in_lem ty σ) ws) (type_done t (found_in_lem ty σ) ws))))
 
-  module _ (w w' : List ℕ) (h : Here) (ty : ℕ) (r : code.Walking) where
+  module _ (w w' : List ℕ) (h : Here) (ty : ℕ) (r : Result code.Walking Refusal) where
     arrow-if : (a b c : Bool) (S : Scope) (K : List TypeLevel) (σ : State) → h.tight ≡ a → is arrow ws ≡ b → is linear ws ≡ c → good (arrow_from (here_with h S K) (found_in_lem ty σ) ws) ≡ arrow_if ty a b c (here_with h S K) σ
     arrow-if a b c S K σ e f g =
         ap (λ (x : Bool). arrow_if ty x (is arrow ws) (is linear ws) (here_with h S K) σ) e
@@ -159,5 +161,5 @@ module _ (text : List ℕ) (at : ℕ) (v : Said) (m : Marks text at v) where
     pub side-none : ¬ (v.code ≡ 10) → Moved text w h (Known ty) (arrow_after text ty at) r w' → Moved text w h (Known ty) (side_after text ty at) r w'
     side-none n M = moved_as (Known ty) (arrow_after text ty at) (side_after text ty at) (λ X bodies σ S K. ap (λ (b : Bool). good (cond b (ask_side (here_with h S K) product true (found_in_lem ty σ) ws) (arrow_from (here_with h S K) (found_in_lem ty σ) ws))) (mark_no text at v times m.times n)) M
 
-pub arrow_tight : (text w w' : List ℕ) (h : Here) (ty at : ℕ) (r : code.Walking) → h.tight ≡ true → Moved text w h (Known ty) (done_after text ty at) r w' → Moved text w h (Known ty) (arrow_after text ty at) r w'
+pub arrow_tight : (text w w' : List ℕ) (h : Here) (ty at : ℕ) (r : Result code.Walking Refusal) → h.tight ≡ true → Moved text w h (Known ty) (done_after text ty at) r w' → Moved text w h (Known ty) (arrow_after text ty at) r w'
 arrow_tight text w w' h ty at r t M = moved_as (Known ty) (done_after text ty at) (arrow_after text ty at) (λ X bodies σ S K. ap (λ (b : Bool). good (cond b (type_done (here_with h S K) (found_in_lem ty σ) (from text at)) (cond (is arrow (from text at)) (ask_side (here_with h S K) Trees.arrow false (found_in_lem ty σ) (from text at)) (cond (is linear (from text at)) (ask_side (here_with h S K) Trees.linear false (found_in_lem ty σ) (from text at)) (type_done (here_with h S K) (found_in_lem ty σ) (from text at)))))) t) M

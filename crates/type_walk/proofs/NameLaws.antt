@@ -6,6 +6,10 @@ use mathlib.Core.List.{List, [], ◌∷◌}
 use native.Mathlib.Omega.{arith}
 use lib.Dec.{T, leb, leb→le}
 use lib.ListN.{length, take}
+use Rattle.std.proofs.Common.{Result, Ok, Err}
+use Rattle.answers.specs.declared.Refusal.{Refusal}
+use Rattle.answers.specs.declared.Reason.{Reason}
+use Rattle.answers.specs.Refusals.{refusal_at, said_why}
 use Rattle.calculus.specs.Answer.{Answer, good, refused, ◌>>=◌, refuse, need}
 use Rattle.notation_calculus.specs.Words.{Name, same_name, square, curly, Word}
 use Rattle.notation_calculus.specs.Trees.{Bound, Clause, Text}
@@ -24,8 +28,6 @@ use Rattle.scopes.specs.Frames.{frame_in, HoldsParameters}
 use Rattle.scopes.proofs.LookLaws.{FoundNamed, look-named}
 use Rattle.walk_levels.specs.TypeLevels.{flag_number, GivenIn}
 use Rattle.walks.specs.declared.PutAt.{PutAt}
-use Rattle.walks.specs.declared.PutEnd as put
-use Rattle.walks.specs.declared.PutEnd.TheVariants as put-end
 use Rattle.walks.specs.Walkable.{row_bodies, AllTyped, Walkable}
 use Rattle.walks.specs.Walked.{TypesWalked}
 use Rattle.walks.specs.Says.{bound_at, PutThere, put_from, PutAnswers, CanPut, PutSays}
@@ -33,7 +35,7 @@ use Rattle.walks.proofs.Kept.{types_walked_then}
 use Rattle.type_walk.specs.declared.levels.Here.{Here}
 use Rattle.type_walk.specs.declared.levels.Walking as code
 use Rattle.type_walk.specs.declared.levels.Walking.TheVariants as walking
-use Rattle.type_walk.specs.Holding.{given_from, here_with, AtLevel, Wanting, Answered}
+use Rattle.type_walk.specs.Holding.{given_from, here_with, AtLevel, Wanting, Answers}
 use Rattle.type_walk.specs.Moves.{CanMove, Waited, Moving, Moved, Known, found_in_lem, Given, Valued, Anything, NameAt, side_after, argument_ask, put_after, plain_after, named_after, CanAskBody, BodyAsked}
 use Rattle.type_walk.proofs.HoldLaws.{at_on, walked-wider}
 use Rattle.type_walk.proofs.AskLaws.{can_wait, ask_held, waited_walked, places-none, waited_moved}
@@ -81,14 +83,14 @@ module _ (text w : List ℕ) (h : Here) (name given at : ℕ) where
       let n : entries S + suc (length args) ≡ h.top + (given + 1) = omega (arith, A.walkable.scope.entries, given_length w h.top given) in
       ap (λ (c : Bool). need c 34 name >>= λ _. good (ask_type (here_with h S K) (argument (bound_at text name) args) false (waiting S (length args)) σ (from text at))) (ap (λ (k : ℕ). leb k most_entries) n ∙ sym e)
 
-  pub argument-full : (b : Bool) → b ≡ leb (h.top + (given + 1)) most_entries → b ≡ false → Moved text w h (Given w h.top given) (argument_ask text w h.top name given at) (walking.Refused 34 name) w
-  argument-full b e f = refused_moved (Given w h.top given) (argument_ask text w h.top name given at) 34 name λ X m₀ base σ S K A k bodies. room-if false (sym f ∙ e) X m₀ base σ S K A bodies
+  pub argument-full : (b : Bool) → b ≡ leb (h.top + (given + 1)) most_entries → b ≡ false → Moved text w h (Given w h.top given) (argument_ask text w h.top name given at) (Err (refusal_at Reason.TextLimit name)) w
+  argument-full b e f = refused_moved (Given w h.top given) (argument_ask text w h.top name given at) (refusal_at Reason.TextLimit name) λ X m₀ base σ S K A k bodies. room-if false (sym f ∙ e) X m₀ base σ S K A bodies
 
   pub argument-asked :
       (w' : List ℕ) (flag : ℕ) (r : code.Walking) (b : Bool) → b ≡ leb (h.top + (given + 1)) most_entries → b ≡ true
       → CanMove text w h (Given w h.top given) → Lexed text at → name ≤ length text → Places text w 0 (h.top + given) → flag ≡ flag_number h.tight
       → Waited w h (record { form = 2; flag = flag; place = name; count = given; node = 0; ty = 0; deep = 0; next = 0 }) (record { more = h.more; tight = false; frame = h.frame; top = h.top + given; at = at }) r w'
-      → Moved text w h (Given w h.top given) (argument_ask text w h.top name given at) r w'
+      → Moved text w h (Given w h.top given) (argument_ask text w h.top name given at) (Ok r) w'
   argument-asked w' flag r b e ok C l inside places f g =
       let waits = can_wait text w C.X C.m₀ C.base C.σ h C.S C.K C.held in
       let n : h.top + given ≡ h.top + length args = omega (arith, given_length w h.top given) in
@@ -100,10 +102,10 @@ module _ (text w : List ℕ) (h : Here) (name given at : ℕ) where
 
 -- ---- a definition that is put in
 
-pub body-asked : (text w w' : List ℕ) (h : Here) (p : PutAt) (flag : ℕ) (r : code.Walking) → CanMove text w h Anything → flag ≡ flag_number h.tight → Waited w h (record { form = 1; flag = flag; place = 0; count = 0; node = 0; ty = 0; deep = 0; next = p.end }) (record { more = h.more; tight = false; frame = h.more; top = p.top; at = p.body }) r w' → BodyAsked text w h p r w'
+pub body-asked : (text w w' : List ℕ) (h : Here) (p : PutAt) (flag : ℕ) (r : code.Walking) → CanMove text w h Anything → flag ≡ flag_number h.tight → Waited w h (record { form = 1; flag = flag; place = 0; count = 0; node = 0; ty = 0; deep = 0; next = p.end }) (record { more = h.more; tight = false; frame = h.more; top = p.top; at = p.body }) r w' → BodyAsked text w h p (Ok r) w'
 body-asked text w w' h p flag r C f g =
     let waits = can_wait text w C.X C.m₀ C.base C.σ h C.S C.K C.held in
-    subst (λ (y : code.Walking). BodyAsked text w h p y w') (sym g.wants) (subst (λ (v : List ℕ). BodyAsked text w h p (walking.Wanted (record { more = h.more; tight = false; frame = h.more; top = p.top; at = p.body })) v) (sym g.stored) (record {
+    subst (λ (y : code.Walking). BodyAsked text w h p (Ok y) w') (sym g.wants) (subst (λ (v : List ℕ). BodyAsked text w h p (Ok (walking.Wanted (record { more = h.more; tight = false; frame = h.more; top = p.top; at = p.body }))) v) (sym g.stored) (record {
       walked = waited_walked w h _ waits;
       says = λ X m₀ base σ S R K A G few start end. ask_held w h _ waits text X m₀ base σ S K A (body (from text p.end)) false h.more p.top p.body R f (refl, refl, end) tt (places-none text w h.top A.walkable.scope.places) (omega arith) (omega (arith, few)) G start;
     }))
@@ -147,32 +149,32 @@ module _ (text w w₁ : List ℕ) (h : Here) (name given at : ℕ) where
   abbrev ask_body : TypeHere → PutThere → Answer Typing
   ask_body t p = good (ask_type t (body p.rest) false p.scope p.state p.body)
 
-  put-none : (X : Text) (number place : ℕ) (t : TypeHere) (a : Answer PutThere) → PutAnswers text w₁ X h.more (put-end.Refused number place) a → (a >>= ask_body t) ≡ refuse number place
-  put-none X number place t (good p) e = absurd e
-  put-none X number place t (refused why) e = ap refused e
+  put-none : (X : Text) (q : Refusal) (t : TypeHere) (a : Answer PutThere) → PutAnswers text w₁ X h.more (Err q) a → (a >>= ask_body t) ≡ refused (said_why q)
+  put-none X q t (good p) e = absurd e
+  put-none X q t (refused why) e = ap refused e
 
-  pub put_refused : (p : put.PutEnd) (number place : ℕ) → p ≡ put-end.Refused number place → PutSays text w true name at given h.frame h.top h.more p w₁ → Moved text w h (Valued w h.top given) (put_after text w h.top name given at) (walking.Refused number place) w₁
-  put_refused p number place e Z = record {
+  pub put_refused : (p : Result PutAt Refusal) (q : Refusal) → p ≡ Err q → PutSays text w true name at given h.frame h.top h.more p w₁ → Moved text w h (Valued w h.top given) (put_after text w h.top name given at) (Err q) w₁
+  put_refused p q e Z = record {
     walked = walked-wider (suc h.more) (h.more + 1) h.top h.top w w₁ (omega arith) (omega arith) Z.walked;
-    says = λ X m₀ base σ S K A k. put_is X (row_bodies text w 0 (length X.clauses)) S σ (bound_at text name) (values_in w h.top given) (from text at) (here_with h S K) refl ∙ put-none X number place (here_with h S K) (putting X S σ) (subst (λ (y : put.PutEnd). PutAnswers text w₁ X h.more y (putting X S σ)) e (Z.says X S σ A.walkable k));
+    says = λ X m₀ base σ S K A k. put_is X (row_bodies text w 0 (length X.clauses)) S σ (bound_at text name) (values_in w h.top given) (from text at) (here_with h S K) refl ∙ put-none X q (here_with h S K) (putting X S σ) (subst (λ (y : Result PutAt Refusal). PutAnswers text w₁ X h.more y (putting X S σ)) e (Z.says X S σ A.walkable k));
   }
 
-  module _ (p : put.PutEnd) (q : PutAt) (is-p : p ≡ put-end.At q) (Z : PutSays text w true name at given h.frame h.top h.more p w₁) where
-    put-said : (X : Text) (S : Scope) (σ : State) → Walkable text w h.frame h.top X S σ → Valued w h.top given σ → PutAnswers text w₁ X h.more (put-end.At q) (putting X S σ)
-    put-said X S σ G k = subst (λ (y : put.PutEnd). PutAnswers text w₁ X h.more y (putting X S σ)) is-p (Z.says X S σ G k)
+  module _ (p : Result PutAt Refusal) (q : PutAt) (is-p : p ≡ Ok q) (Z : PutSays text w true name at given h.frame h.top h.more p w₁) where
+    put-said : (X : Text) (S : Scope) (σ : State) → Walkable text w h.frame h.top X S σ → Valued w h.top given σ → PutAnswers text w₁ X h.more (Ok q) (putting X S σ)
+    put-said X S σ G k = subst (λ (y : Result PutAt Refusal). PutAnswers text w₁ X h.more y (putting X S σ)) is-p (Z.says X S σ G k)
 
     abbrev walked₁ : TypesWalked (h.more + 1) h.top w w₁
     walked₁ = walked-wider (suc h.more) (h.more + 1) h.top h.top w w₁ (omega arith) (omega arith) Z.walked
 
-    can-by : (X : Text) (m₀ base : ℕ) (σ : State) (S : Scope) (K : List TypeLevel) → AtLevel text w X m₀ base σ h S K → (a : Answer PutThere) → PutAnswers text w₁ X h.more (put-end.At q) a → CanAskBody text w₁ h q
+    can-by : (X : Text) (m₀ base : ℕ) (σ : State) (S : Scope) (K : List TypeLevel) → AtLevel text w X m₀ base σ h S K → (a : Answer PutThere) → PutAnswers text w₁ X h.more (Ok q) a → CanAskBody text w₁ h q
     can-by X m₀ base σ S K A (good p) c = record { can = record { X = X; m₀ = m₀; base = base; σ = p.state; S = S; K = K; held = at_on text w w₁ X σ p.state c.walkable.state m₀ base h S K walked₁ A; known = tt }; lexed = c.rest.lexed }
     can-by X m₀ base σ S K A (refused why) c = absurd c
 
     pub can-ask-body : CanMove text w h (Valued w h.top given) → CanAskBody text w₁ h q
     can-ask-body C = can-by C.X C.m₀ C.base C.σ C.S C.K C.held (putting C.X C.S C.σ) (put-said C.X C.S C.σ C.held.walkable C.known)
 
-    module _ (w₂ : List ℕ) (r : code.Walking) (B : BodyAsked text w₁ h q r w₂) where
-      came-by : (X : Text) (m₀ base : ℕ) (σ : State) (S : Scope) (K : List TypeLevel) → AtLevel text w X m₀ base σ h S K → (a : Answer PutThere) → On (λ (p : PutThere). entries S ≤ entries p.scope) a → PutAnswers text w₁ X h.more (put-end.At q) a → Answered text w₂ X m₀ base r (a >>= ask_body (here_with h S K))
+    module _ (w₂ : List ℕ) (r : Result code.Walking Refusal) (B : BodyAsked text w₁ h q r w₂) where
+      came-by : (X : Text) (m₀ base : ℕ) (σ : State) (S : Scope) (K : List TypeLevel) → AtLevel text w X m₀ base σ h S K → (a : Answer PutThere) → On (λ (p : PutThere). entries S ≤ entries p.scope) a → PutAnswers text w₁ X h.more (Ok q) a → Answers text w₂ X m₀ base r (a >>= ask_body (here_with h S K))
       came-by X m₀ base σ S K A (good p) o c =
           let A₁ = at_on text w w₁ X σ p.state c.walkable.state m₀ base h S K walked₁ A in
           let few : h.top ≤ q.top = omega (arith, o, A.walkable.scope.entries, c.walkable.scope.entries) in
@@ -218,7 +220,7 @@ module _ (text w : List ℕ) (h : Here) (name at : ℕ) (N : NameAt text name) (
     found : {A : Type 0} (i : ℕ) (g : ℕ → A) (else : A) → FoundNamed text w name f.types count e g else (lookup (run_at text name) (named_from text w f.types count) i (λ _ v. g v) else)
     found i g else = subst (λ (r : ℕ). FoundNamed text w name f.types count r g else (lookup (run_at text name) (named_from text w f.types count) i (λ _ v. g v) else)) (sym is-first) (look-named text w name N.long count f.types i g else)
 
-    pub plain-none : (w' : List ℕ) (r : code.Walking) → e ≡ f.numbers → Moved text w h (Valued w h.top 0) (put_after text w h.top name 0 at) r w' → Moved text w h Anything (plain_after text name at) r w'
+    pub plain-none : (w' : List ℕ) (r : Result code.Walking Refusal) → e ≡ f.numbers → Moved text w h (Valued w h.top 0) (put_after text w h.top name 0 at) r w' → Moved text w h Anything (plain_after text name at) r w'
     plain-none w' r z M = moved_by (Valued w h.top 0) Anything (put_after text w h.top name 0 at) (plain_after text name at) (λ X m₀ base σ S K A _.
         let Q = parameters X m₀ base σ S K A in
         (tt, λ bodies. subst (λ (Γ : List Entry). lookup (run_at text name) Γ 0 (λ i v. good (side_from (here_with h S K) (found_in_lem v σ) (from text at))) (type_put_in X bodies (here_with h S K) σ (bound_at text name) [] (from text at)) ≡ type_put_in X bodies (here_with h S K) σ (bound_at text name) [] (from text at)) Q.types ((found 0 (λ v. good (side_from (here_with h S K) (found_in_lem v σ) (from text at))) (type_put_in X bodies (here_with h S K) σ (bound_at text name) [] (from text at))).none (omega (arith, Q.types_first))))) M
@@ -242,7 +244,7 @@ module _ (text w : List ℕ) (h : Here) (name at : ℕ) (N : NameAt text name) (
     pub plain-low : ¬ (e ≡ f.numbers) → CanMove text w h Anything → e < most_entries
     plain-low some C = low some C.X C.m₀ C.base C.σ C.S C.K C.held
 
-    pub plain-found : (w' : List ℕ) (r : code.Walking) (v : ℕ) → ¬ (e ≡ f.numbers) → v ≡ value_at w e → Moved text w h (Known v) (side_after text v at) r w' → Moved text w h Anything (plain_after text name at) r w'
+    pub plain-found : (w' : List ℕ) (r : Result code.Walking Refusal) (v : ℕ) → ¬ (e ≡ f.numbers) → v ≡ value_at w e → Moved text w h (Known v) (side_after text v at) r w' → Moved text w h Anything (plain_after text name at) r w'
     plain-found w' r v some z M = moved_by (Known v) Anything (side_after text v at) (plain_after text name at) (λ X m₀ base σ S K A _. (omega (arith, z, known some X m₀ base σ S K A), λ bodies. plain-is some X m₀ base σ S K A bodies ∙ ap (λ (u : ℕ). side_after text u at X bodies (here_with h S K) σ) (sym z))) M
 
     pub can-side : (v : ℕ) → ¬ (e ≡ f.numbers) → v ≡ value_at w e → CanMove text w h Anything → CanMove text w h (Known v)
@@ -250,7 +252,7 @@ module _ (text w : List ℕ) (h : Here) (name at : ℕ) (N : NameAt text name) (
 
 -- ---- behind a name
 
-module _ (text w w' : List ℕ) (h : Here) (name at : ℕ) (r : code.Walking) (v : Said) (m : Marks text at v) where
+module _ (text w w' : List ℕ) (h : Here) (name at : ℕ) (r : Result code.Walking Refusal) (v : Said) (m : Marks text at v) where
   abbrev ws : List Word
   ws = from text at
 

@@ -5,6 +5,10 @@ use mathlib.Core.Bool.{Bool, true, cond}
 use mathlib.Core.List.{List}
 use native.Mathlib.Omega.{arith}
 use lib.ListN.{length, get_or}
+use Rattle.std.proofs.Common.{Result, Ok, Err}
+use Rattle.answers.specs.declared.Refusal.{Refusal}
+use Rattle.answers.specs.declared.Reason.{Reason}
+use Rattle.answers.specs.Refusals.{refusal_at, said_why}
 use Rattle.calculus.specs.Answer.{Answer, good, refused, ◌>>=◌, refuse}
 use Rattle.calculus.proofs.Answers.{refused≢good, refused-inj}
 use Rattle.notation_calculus.specs.Words.{plus, power, Token, sign, part, number, name, Word}
@@ -16,14 +20,11 @@ use Rattle.notation_machine.specs.TypeMachine.{TypeLevel, Typing, TypeHere, side
 use Rattle.words.specs.Next.{Said}
 use Rattle.words.specs.Lexed.{from, Stands}
 use Rattle.words.specs.Marks.{Marks}
-use Rattle.grammar.specs.declared.steps.End.{End}
 use Rattle.grammar.specs.Ends.{rest_of, Ends}
 use Rattle.grammar.specs.Skips.{number_end}
 use Rattle.grammar.proofs.EndLaws.{is_yes, mark-stands, mark_no}
 use Rattle.grammar.proofs.SkipLaws.{number-rest}
 use Rattle.making_memory.specs.Map.{type_count_at, making_size}
-use Rattle.made_types.specs.declared.FoundType as found-code
-use Rattle.made_types.specs.declared.FoundType.TheVariants as found_type
 use Rattle.made_types.specs.Listing.{RowSays}
 use Rattle.clauses.specs.Groups.{value_in, rest_in_lem}
 use Rattle.clauses.specs.Numbers.{no_number, NumberThere}
@@ -33,7 +34,6 @@ use Rattle.scopes.specs.Frames.{frame_in, HoldsScope}
 use Rattle.scopes.specs.Arguments.{numbers_known, NumbersKnown, ValueRead}
 use Rattle.type_walk.specs.declared.levels.Here.{Here}
 use Rattle.type_walk.specs.declared.levels.Walking as code
-use Rattle.type_walk.specs.declared.levels.Walking.TheVariants as walking
 use Rattle.type_walk.specs.Holding.{here_with, AtLevel}
 use Rattle.type_walk.specs.Moves.{CanMove, Moving, Moved, Known, found_in_lem, Anything, side_after, ones_after, power_after, row_after}
 use Rattle.type_walk.proofs.MoveLaws.{onward, moved_by, moved_as, refused_moved}
@@ -52,7 +52,7 @@ module _ (text : List ℕ) (at : ℕ) (v : Said) (m : Marks text at v) where
   abbrev ones_if : Bool → ℕ → List Word → TypeHere → State → Answer Typing
   ones_if b p us t σ = cond b (number_at us >>= λ k. number_of t.scope.numbers k.value >>= λ n. ones_of p k.value.place n σ >>= λ x. good (side_from t x k.rest)) (good (side_from t (found_in_lem 0 σ) ws))
 
-  module _ (w w' : List ℕ) (h : Here) (r : code.Walking) where
+  module _ (w w' : List ℕ) (h : Here) (r : Result code.Walking Refusal) where
     pub ones_power : v.code ≡ 25 → Moved text w h Anything (power_after text v.place v.end) r w' → Moved text w h Anything (ones_after text at) r w'
     ones_power e M = let s = mark-stands text at v m 25 e (λ z. omega arith) in moved_as Anything (power_after text v.place v.end) (ones_after text at) (λ X bodies σ S K.
         ap (λ (b : Bool). ones_if b (place ws) (behind ws) (here_with h S K) σ) (is_yes text at v s power e)
@@ -64,9 +64,9 @@ module _ (text : List ℕ) (at : ℕ) (v : Said) (m : Marks text at v) where
 
 -- ---- behind the sign
 
-not_read : {B : Type 0} (n p : ℕ) (f : Got Number → Answer B) (m : Answer (Got Number)) → rest_of m ≡ refuse n p → (m >>= f) ≡ refuse n p
-not_read n p f (good g) e = absurd (refused≢good (sym e))
-not_read n p f (refused why) e = ap refused (refused-inj e)
+not_read : {B : Type 0} (q : Refusal) (f : Got Number → Answer B) (m : Answer (Got Number)) → rest_of m ≡ refused (said_why q) → (m >>= f) ≡ refused (said_why q)
+not_read q f (good g) e = absurd (refused≢good (sym e))
+not_read q f (refused why) e = ap refused (refused-inj e)
 
 there_by : (us : List Word) (m : Answer (Got Number)) → rest_of m ≡ good us → m ≡ got (value_in no_number m) (rest_in_lem m)
 there_by us (good g) e = refl
@@ -85,15 +85,15 @@ placed_by (name n) us = on_either (PlacedAt (place us)) (is plus (behind us)) _ 
 number-place : (us vs : List Word) (k : Number) → number_at us ≡ got k vs → k.place ≡ place us
 number-place us vs k e = on_good (PlacedAt (place us)) (number_at us) (record { value = k; rest = vs }) (placed_by (peek us).token us) e
 
-module _ (text : List ℕ) (at : ℕ) (e : End) (E : Ends text (length (from text at)) (number_end (from text at)) e) where
+module _ (text : List ℕ) (at : ℕ) where
   abbrev us : List Word
   us = from text at
 
-  pub power_due : (w : List ℕ) (h : Here) (p : ℕ) → ¬ (e.number ≡ 0) → Moved text w h Anything (power_after text p at) (walking.Refused e.number e.at) w
-  power_due w h p z = refused_moved Anything (power_after text p at) e.number e.at (λ X m₀ base σ S K A _ bodies. not_read e.number e.at _ (number_at us) (number-rest us ∙ E.refuses z))
+  pub power_due : (w : List ℕ) (h : Here) (p : ℕ) (q : Refusal) → Ends text (length us) (number_end us) (Err q) → Moved text w h Anything (power_after text p at) (Err q) w
+  power_due w h p q E = refused_moved Anything (power_after text p at) q (λ X m₀ base σ S K A _ bodies. not_read q _ (number_at us) (number-rest us ∙ E))
 
-  pub number_there : e.number ≡ 0 → NumberThere us
-  number_there z = there_by (from text e.at) (number_at us) (number-rest us ∙ (E.reaches z).is)
+  pub number_there : (end : ℕ) → Ends text (length us) (number_end us) (Ok end) → NumberThere us
+  number_there end E = there_by (from text end) (number_at us) (number-rest us ∙ E.is)
 
 module _ (text w : List ℕ) (h : Here) (f : Frame) (F : f ≡ frame_in w h.frame) where
   pub numbers-known : CanMove text w h Anything → NumbersKnown text w f
@@ -105,34 +105,41 @@ module _ (text w : List ℕ) (h : Here) (f : Frame) (F : f ≡ frame_in w h.fram
         ordered = subst (λ (x : Frame). x.numbers ≤ x.variables) (sym F) held.parameters.numbers_next;
       }
 
-  module _ (sign at : ℕ) (v : Value) (N : ValueRead text w f (from text at) v) where
+  module _ (sign at : ℕ) (r : Result Value Refusal) (N : ValueRead text w f (from text at) r) where
     numbers_of : (S : Scope) → HoldsScope text w h.frame h.top S → S.numbers ≡ numbers_known text w f
     numbers_of S H = sym H.parameters.numbers ∙ ap (numbers_known text w) (sym F)
 
-    abbrev counted : TypeHere → State → Answer ℕ → Answer Typing
-    counted t σ m = m >>= λ n. ones_of sign N.read.place n σ >>= λ x. good (side_from t x (from text v.end))
+    abbrev counted : ℕ → TypeHere → State → Answer ℕ → Answer Typing
+    counted end t σ m = m >>= λ n. ones_of sign N.read.place n σ >>= λ x. good (side_from t x (from text end))
 
     -- what is answered, where the number's value is known
-    power-is : (X : Text) (m₀ base : ℕ) (σ : State) (S : Scope) (K : List TypeLevel) → AtLevel text w X m₀ base σ h S K → (bodies : List (List Word)) (m : Answer ℕ) → number_of (numbers_known text w f) N.read ≡ m → power_after text sign at X bodies (here_with h S K) σ ≡ counted (here_with h S K) σ m
+    power-is : (X : Text) (m₀ base : ℕ) (σ : State) (S : Scope) (K : List TypeLevel) → AtLevel text w X m₀ base σ h S K → (bodies : List (List Word)) (m : Answer ℕ) → number_of (numbers_known text w f) N.read ≡ m → power_after text sign at X bodies (here_with h S K) σ ≡ counted N.end (here_with h S K) σ m
     power-is X m₀ base σ S K A bodies m g =
         ap (λ (a : Answer (Got Number)). a >>= λ k. number_of S.numbers k.value >>= λ n. ones_of sign k.value.place n σ >>= λ x. good (side_from (here_with h S K) x k.rest)) N.is
-        ∙ ap (λ (Γ : List Entry). counted (here_with h S K) σ (number_of Γ N.read)) (numbers_of S A.walkable.scope)
-        ∙ ap (counted (here_with h S K) σ) g
+        ∙ ap (λ (Γ : List Entry). counted N.end (here_with h S K) σ (number_of Γ N.read)) (numbers_of S A.walkable.scope)
+        ∙ ap (counted N.end (here_with h S K) σ) g
 
-    pub power-bad : ¬ (v.number ≡ 0) → Moved text w h Anything (power_after text sign at) (walking.Refused v.number v.value) w
-    power-bad y = refused_moved Anything (power_after text sign at) v.number v.value (λ X m₀ base σ S K A _ bodies. power-is X m₀ base σ S K A bodies (refuse v.number v.value) (N.refuses y))
+  module _ (sign at : ℕ) where
+    pub power-bad : (q : Refusal) → ValueRead text w f (from text at) (Err q) → Moved text w h Anything (power_after text sign at) (Err q) w
+    power-bad q N = refused_moved Anything (power_after text sign at) q (λ X m₀ base σ S K A _ bodies. power-is sign at (Err q) N X m₀ base σ S K A bodies (refused (said_why q)) N.says)
 
-    module _ (y : v.number ≡ 0) where
-      pub power_zero : v.value ≡ 0 → (u : Said) → Stands text at u → Moved text w h Anything (power_after text sign at) (walking.Refused 33 u.place) w
-      power_zero z u s = refused_moved Anything (power_after text sign at) 33 u.place (λ X m₀ base σ S K A _ bodies.
-          power-is X m₀ base σ S K A bodies (good v.value) (N.valued y)
-          ∙ ap (λ (n : ℕ). counted (here_with h S K) σ (good n)) z
-          ∙ ap (λ (p : ℕ). refuse 33 p) (number-place (from text at) (from text v.end) N.read N.is ∙ sym s.place))
+    module _ (v : Value) (N : ValueRead text w f (from text at) (Ok v)) where
+      pub power_zero : v.value ≡ 0 → (u : Said) → Stands text at u → Moved text w h Anything (power_after text sign at) (Err (refusal_at Reason.UnknownName u.place)) w
+      power_zero z u s = refused_moved Anything (power_after text sign at) (refusal_at Reason.UnknownName u.place) (λ X m₀ base σ S K A _ bodies.
+          power-is sign at (Ok v) N X m₀ base σ S K A bodies (good v.value) N.says.1
+          ∙ ap (λ (n : ℕ). counted sign at (Ok v) N N.end (here_with h S K) σ (good n)) z
+          ∙ ap (λ (p : ℕ). refuse 33 p) (number-place (from text at) (from text N.end) N.read N.is ∙ sym s.place))
 
-      pub power-some : ¬ (v.value ≡ 0) → (w' : List ℕ) (r : code.Walking) → Moved text w h Anything (row_after text (v.value - 1) sign v.end) r w' → Moved text w h Anything (power_after text sign at) r w'
+      pub power-some : ¬ (v.value ≡ 0) → (w' : List ℕ) (r : Result code.Walking Refusal) → Moved text w h Anything (row_after text (v.value - 1) sign v.end) r w' → Moved text w h Anything (power_after text sign at) r w'
       power-some z w' r M =
           let n : v.value ≡ suc (v.value - 1) = omega arith in
-          moved_by Anything Anything (row_after text (v.value - 1) sign v.end) (power_after text sign at) (λ X m₀ base σ S K A _. (tt, λ bodies. power-is X m₀ base σ S K A bodies (good v.value) (N.valued y) ∙ ap (λ (k : ℕ). counted (here_with h S K) σ (good k)) n)) M
+          moved_by Anything Anything (row_after text (v.value - 1) sign v.end) (power_after text sign at) (λ X m₀ base σ S K A _. (
+            tt,
+            λ bodies.
+                power-is sign at (Ok v) N X m₀ base σ S K A bodies (good v.value) N.says.1
+                ∙ ap (λ (k : ℕ). counted sign at (Ok v) N N.end (here_with h S K) σ (good k)) n
+                ∙ ap (λ (j : ℕ). counted sign at (Ok v) N j (here_with h S K) σ (good (suc (v.value - 1)))) (sym N.says.0),
+          )) M
 
 -- ---- behind the number
 
@@ -151,13 +158,13 @@ module _ (text w w₁ : List ℕ) (h : Here) (more sign end : ℕ) where
   abbrev go : Moving
   go = row_after text more sign end
 
-  module _ (C : CanMove text w h Anything) (x : found-code.FoundType) (L : RowSays w more sign x w₁) where
-    pub row-refused : (n p p' : ℕ) → x ≡ found_type.Refused n p → p' ≡ p → Moved text w h Anything go (walking.Refused n p') w₁
-    row-refused n p p' e z = table_refused text w w₁ h Anything answer go_on_lem go (λ X bodies t σ. refl) C L.only x (λ σ H _. L.says σ H) n p p' e z
+  module _ (C : CanMove text w h Anything) (x : Result ℕ Refusal) (L : RowSays w more sign x w₁) where
+    pub row-refused : (q : Refusal) → x ≡ Err q → Moved text w h Anything go (Err q) w₁
+    row-refused q e = table_refused text w w₁ h Anything answer go_on_lem go (λ X bodies t σ. refl) C L.only x (λ σ H _. L.says σ H) q e
 
-    module _ (t : ℕ) (e : x ≡ found_type.At t) where
+    module _ (t : ℕ) (e : x ≡ Ok t) where
       pub row-can : CanMove text w₁ h (Known t)
       row-can = table-can text w w₁ h Anything answer go_on_lem go (λ X bodies t σ. refl) C L.only x (λ σ H _. L.says σ H) t e
 
-      pub row-found : (w₂ : List ℕ) (r : code.Walking) → Moved text w₁ h (Known t) (side_after text t end) r w₂ → Moved text w h Anything go r w₂
+      pub row-found : (w₂ : List ℕ) (r : Result code.Walking Refusal) → Moved text w₁ h (Known t) (side_after text t end) r w₂ → Moved text w h Anything go r w₂
       row-found w₂ r M = table-found text w w₁ h Anything answer go_on_lem go (λ X bodies t σ. refl) C L.only x (λ σ H _. L.says σ H) t e (side_after text t end) (λ X bodies u σ. refl) w₂ r M

@@ -9,9 +9,13 @@ use native.Mathlib.Numerals.{add-one}
 use lib.Dec.{eqb}
 use lib.ListN.{length, drop, take}
 use borrow.Author.Tests.{eq-eqb, ne_eqb}
+use Rattle.std.proofs.Common.{Result, Ok, Err}
+use Rattle.answers.specs.declared.Refusal.{Refusal}
+use Rattle.answers.specs.declared.Reason.{Reason}
+use Rattle.answers.specs.Refusals.{refusal_at}
 use Rattle.calculus.specs.Answer.{Answer, good, ◌>>=◌, refuse, need}
 use Rattle.calculus.specs.Types.{TyRec}
-use Rattle.calculus.proofs.Answers.{good-inj, refused≢good}
+use Rattle.calculus.proofs.Answers.{good-inj}
 use Rattle.sheet_theorems.specs.Laid.{Below}
 use Rattle.notation_calculus.specs.Words.{endRound, comma, endSquare, Token, sign, part, number, name, sign_code, Word, run}
 use Rattle.notation_calculus.specs.Trees.{product, arrow, linear, Text}
@@ -25,8 +29,6 @@ use Rattle.words.specs.Lexed.{from, Lexed, Stands}
 use Rattle.grammar.proofs.EndLaws.{sign_not, is_yes, is_no}
 use Rattle.making_memory.specs.Map.{scope_at, type_count_at, node_count_at, put_count_at, making_size}
 use Rattle.made_types.specs.declared.Record.{Record}
-use Rattle.made_types.specs.declared.FoundType as found-code
-use Rattle.made_types.specs.declared.FoundType.TheVariants as found_type
 use Rattle.made_types.specs.Held.{HoldsState}
 use Rattle.made_types.specs.Listing.{rec_of_kind, record_of_lem, Listable, FoundIn, ListedSays}
 use Rattle.made_types.proofs.Keeping.{state_kept}
@@ -54,7 +56,7 @@ use Rattle.type_walk.proofs.TableLaws.{table_refused, table-can, table-found}
 
 -- ---- a type begins
 
-pub inside-asked : (text w w' : List ℕ) (h : Here) (at flag : ℕ) (r : code.Walking) → CanMove text w h Anything → Lexed text at → flag ≡ flag_number h.tight → Waited w h (record { form = 0; flag = flag; place = 0; count = 0; node = 0; ty = 0; deep = 0; next = 0 }) (record { more = h.more; tight = false; frame = h.frame; top = h.top; at = at }) r w' → Moved text w h Anything (inside_ask text at) r w'
+pub inside-asked : (text w w' : List ℕ) (h : Here) (at flag : ℕ) (r : code.Walking) → CanMove text w h Anything → Lexed text at → flag ≡ flag_number h.tight → Waited w h (record { form = 0; flag = flag; place = 0; count = 0; node = 0; ty = 0; deep = 0; next = 0 }) (record { more = h.more; tight = false; frame = h.frame; top = h.top; at = at }) r w' → Moved text w h Anything (inside_ask text at) (Ok r) w'
 inside-asked text w w' h at flag r C l f g =
     let waits = can_wait text w C.X C.m₀ C.base C.σ h C.S C.K C.held in
     waited_moved text w h _ _ r w' Anything (inside_ask text at) waits g (λ X m₀ base σ S K A k. ask_held w h _ waits text X m₀ base σ S K A enclosed false h.frame h.top at S f refl tt (places-none text w h.top A.walkable.scope.places) (omega (arith, A.level)) (omega arith) A.walkable l)
@@ -87,7 +89,7 @@ module _ (text : List ℕ) (at : ℕ) (v : Said) (s : Stands text at v) where
   pub name_there : v.code ≡ 24 → NameAt text v.place
   name_there e = record { inside = omega (arith, s.long e, (onward text at v s 23 e).lexed.within); long = omega (arith, s.long e, s.whole e) }
 
-  module _ (w w' : List ℕ) (h : Here) (r : code.Walking) where
+  module _ (w w' : List ℕ) (h : Here) (r : Result code.Walking Refusal) where
     pub enter-name : v.code ≡ 24 → Moved text w h Anything (named_after text v.place v.end) r w' → Moved text w h Anything (enter_at text at) r w'
     enter-name e M = moved_as Anything (named_after text v.place v.end) (enter_at text at) (λ X bodies σ S K.
         let long : v.end - v.place ≡ run (drop v.place text) = omega (arith, s.whole e) in
@@ -108,11 +110,11 @@ module _ (text : List ℕ) (at : ℕ) (v : Said) (s : Stands text at v) where
     inside-closed ty e M = moved_as (Known ty) (side_after text ty v.end) (left_with text enclosed ty at) (λ X bodies σ S K. ap (λ (b : Bool). need b 32 (place ws) >>= λ _. good (side_from (here_with h S K) (found_in_lem ty σ) (behind ws))) (is_yes text at v s endRound e) ∙ ap (λ (us : List Word). good (side_from (here_with h S K) (found_in_lem ty σ) us)) (onward text at v s 11 e).rest) M
 
   module _ (w : List ℕ) (h : Here) where
-    pub enter-none : ¬ (v.code ≡ 24) → ¬ (v.code ≡ 23) → ¬ (v.code ≡ 11) → Moved text w h Anything (enter_at text at) (walking.Refused 32 v.place) w
-    enter-none a b c = refused_moved Anything (enter_at text at) 32 v.place (λ X m₀ base σ S K A _ bodies. none-enters X bodies (here_with h S K) σ ws (peek ws).token (λ e. a (s.code ∙ e)) (λ e. b (s.code ∙ e)) (λ e. c (s.code ∙ e)) ∙ ap (λ (p : ℕ). refuse 32 p) (sym s.place))
+    pub enter-none : ¬ (v.code ≡ 24) → ¬ (v.code ≡ 23) → ¬ (v.code ≡ 11) → Moved text w h Anything (enter_at text at) (Err (refusal_at Reason.OtherWordDue v.place)) w
+    enter-none a b c = refused_moved Anything (enter_at text at) (refusal_at Reason.OtherWordDue v.place) (λ X m₀ base σ S K A _ bodies. none-enters X bodies (here_with h S K) σ ws (peek ws).token (λ e. a (s.code ∙ e)) (λ e. b (s.code ∙ e)) (λ e. c (s.code ∙ e)) ∙ ap (λ (p : ℕ). refuse 32 p) (sym s.place))
 
-    pub inside-open : (ty : ℕ) → ¬ (v.code ≡ 12) → Moved text w h (Known ty) (left_with text enclosed ty at) (walking.Refused 32 v.place) w
-    inside-open ty n = refused_moved (Known ty) (left_with text enclosed ty at) 32 v.place (λ X m₀ base σ S K A _ bodies. ap (λ (b : Bool). need b 32 (place ws) >>= λ _. good (side_from (here_with h S K) (found_in_lem ty σ) (behind ws))) (is_no text at v s endRound n) ∙ ap (λ (p : ℕ). refuse 32 p) (sym s.place))
+    pub inside-open : (ty : ℕ) → ¬ (v.code ≡ 12) → Moved text w h (Known ty) (left_with text enclosed ty at) (Err (refusal_at Reason.OtherWordDue v.place)) w
+    inside-open ty n = refused_moved (Known ty) (left_with text enclosed ty at) (refusal_at Reason.OtherWordDue v.place) (λ X m₀ base σ S K A _ bodies. ap (λ (b : Bool). need b 32 (place ws) >>= λ _. good (side_from (here_with h S K) (found_in_lem ty σ) (behind ws))) (is_no text at v s endRound n) ∙ ap (λ (p : ℕ). refuse 32 p) (sym s.place))
 
 -- ---- a step at a type that is wanted
 
@@ -120,7 +122,7 @@ module _ (text w : List ℕ) (q : Want) where
   wanted-is : (X : Text) (m₀ base : ℕ) (t : Typing) (H : Wanting text w X m₀ base q (good t)) → t ≡ wanted q.more q.tight H.scope H.state (from text q.at) H.above
   wanted-is X m₀ base t H = good-inj H.is
 
-  pub want_zero : (v : Said) → Stands text q.at v → q.more ≡ 0 → Stepped text w (walking.Wanted q) (walking.Refused 34 v.place) w
+  pub want_zero : (v : Said) → Stands text q.at v → q.more ≡ 0 → Stepped text w (walking.Wanted q) (Err (refusal_at Reason.TextLimit v.place)) w
   want_zero v s z = record { says = λ X m₀ base t H g. (types_walked_none m₀ base w, ap (λ (u : Typing). type_move X (row_bodies text w 0 (length X.clauses)) u) (wanted-is X m₀ base t H) ∙ ap (λ (n : ℕ). type_move X (row_bodies text w 0 (length X.clauses)) (wanted n q.tight H.scope H.state (from text q.at) H.above)) z ∙ ap (λ (p : ℕ). refuse 34 p) (sym s.place)) }
 
   abbrev h : Here
@@ -135,7 +137,7 @@ module _ (text w : List ℕ) (q : Want) where
     pub want-can : CanStep text w (walking.Wanted q) → CanMove text w h Anything
     want-can C = record { X = C.X; m₀ = C.m₀; base = C.base; σ = C.held.state; S = C.held.scope; K = C.held.above; held = at_level C.X C.m₀ C.base C.t C.held; known = tt }
 
-    pub want-moved : (w' : List ℕ) (r : code.Walking) → Moved text w h Anything (enter_at text q.at) r w' → Stepped text w (walking.Wanted q) r w'
+    pub want-moved : (w' : List ℕ) (r : Result code.Walking Refusal) → Moved text w h Anything (enter_at text q.at) r w' → Stepped text w (walking.Wanted q) r w'
     want-moved w' r M = record {
       says = λ X m₀ base t H g.
           let A = at_level X m₀ base t H in
@@ -231,10 +233,10 @@ module _ (text w w₁ : List ℕ) (h : Here) (nm given ty : ℕ) (room : making_
     behind-if : (a b : Bool) → is comma us ≡ a → is endSquare us ≡ b → (X : Text) (bodies : List (List Word)) (σ : State) (S : Scope) (K : List TypeLevel) → left X bodies (here_with h S K) σ ≡ behindIf a b X bodies (here_with h S K) σ
     behind-if a b e f X bodies σ S K = ap (λ (c : Bool). behindIf c (is endSquare us) X bodies (here_with h S K) σ) e ∙ ap (λ (c : Bool). behindIf a c X bodies (here_with h S K) σ) f
 
-    pub argument-open : ¬ (v.code ≡ 14) → ¬ (v.code ≡ 18) → Moved text w h (Both (Known ty) (Given w h.top given)) left (walking.Refused 32 v.place) w₁
-    argument-open n o = moved_after Anything (Both (Known ty) (Given w h.top given)) left left bound_walked bound_state (λ X m₀ base σ S K A k. (tt, λ bodies. refl)) (refused_moved Anything left 32 v.place (λ X m₀ base σ S K A _ bodies. behind-if false false (is_no text at v s comma n) (is_no text at v s endSquare o) X bodies σ S K ∙ ap (λ (p : ℕ). refuse 32 p) (sym s.place)))
+    pub argument-open : ¬ (v.code ≡ 14) → ¬ (v.code ≡ 18) → Moved text w h (Both (Known ty) (Given w h.top given)) left (Err (refusal_at Reason.OtherWordDue v.place)) w₁
+    argument-open n o = moved_after Anything (Both (Known ty) (Given w h.top given)) left left bound_walked bound_state (λ X m₀ base σ S K A k. (tt, λ bodies. refl)) (refused_moved Anything left (refusal_at Reason.OtherWordDue v.place) (λ X m₀ base σ S K A _ bodies. behind-if false false (is_no text at v s comma n) (is_no text at v s endSquare o) X bodies σ S K ∙ ap (λ (p : ℕ). refuse 32 p) (sym s.place)))
 
-    module _ (w' : List ℕ) (r : code.Walking) where
+    module _ (w' : List ℕ) (r : Result code.Walking Refusal) where
       pub argument-comma : v.code ≡ 14 → Moved text w₁ h (Given w₁ h.top (given + 1)) (argument_ask text w₁ h.top nm (given + 1) v.end) r w' → Moved text w h (Both (Known ty) (Given w h.top given)) left r w'
       argument-comma e M = moved_after (Given w₁ h.top (given + 1)) (Both (Known ty) (Given w h.top given)) (argument_ask text w₁ h.top nm (given + 1) v.end) left bound_walked bound_state (λ X m₀ base σ S K A k. (
         bound-known σ k,
@@ -255,7 +257,7 @@ module _ (text w w₁ : List ℕ) (h : Here) (nm given ty : ℕ) (room : making_
 
 -- ---- sides
 
-module _ (text w w' : List ℕ) (h : Here) (form ty at : ℕ) (r : code.Walking) where
+module _ (text w w' : List ℕ) (h : Here) (form ty at : ℕ) (r : Result code.Walking Refusal) where
   pub side_product : form ≡ 3 → Moved text w h (Known ty) (arrow_after text ty at) r w' → Moved text w h (Known ty) (side_done text form ty at) r w'
   side_product e M = moved_as (Known ty) (arrow_after text ty at) (side_done text form ty at) (λ X bodies σ S K. ap (λ (n : ℕ). side_done text n ty at X bodies (here_with h S K) σ) e) M
 
@@ -306,20 +308,20 @@ module _ (text w w₁ : List ℕ) (h : Here) (l : Level) (ty at : ℕ) (low : 3 
   left_is : (X : Text) (bodies : List (List Word)) (t : TypeHere) (σ : State) → left_with text (other (form_by l.form) l.place l.ty) ty at X bodies t σ ≡ (answer σ >>= go_on_lem t)
   left_is X bodies t σ = ap (λ (q : TyRec). listed σ q l.place >>= go_on_lem t) (form_record l.form l.ty ty low high)
 
-  known-listed : (x : found-code.FoundType) → ListedSays w rec l.place x w₁ → (σ : State) → HoldsState w σ → P σ → FoundIn w₁ x (answer σ)
+  known-listed : (x : Result ℕ Refusal) → ListedSays w rec l.place x w₁ → (σ : State) → HoldsState w σ → P σ → FoundIn w₁ x (answer σ)
   known-listed x L σ H (a, b) = L.says σ H (form_below (length σ.table) l.form l.ty ty low high a b)
 
   abbrev leaves : Moving
   leaves = left_with text (other (form_by l.form) l.place l.ty) ty at
 
-  pub side_refused : CanMove text w h P → (x : found-code.FoundType) (n p p' : ℕ) → x ≡ found_type.Refused n p → p' ≡ p → ListedSays w rec l.place x w₁ → Moved text w h P leaves (walking.Refused n p') w₁
-  side_refused C x n p p' e z L = table_refused text w w₁ h P answer go_on_lem leaves left_is C L.only x (known-listed x L) n p p' e z
+  pub side_refused : CanMove text w h P → (x : Result ℕ Refusal) (e : Refusal) → x ≡ Err e → ListedSays w rec l.place x w₁ → Moved text w h P leaves (Err e) w₁
+  side_refused C x e i L = table_refused text w w₁ h P answer go_on_lem leaves left_is C L.only x (known-listed x L) e i
 
-  module _ (C : CanMove text w h P) (x : found-code.FoundType) (t : ℕ) (is_x : x ≡ found_type.At t) (L : ListedSays w rec l.place x w₁) where
+  module _ (C : CanMove text w h P) (x : Result ℕ Refusal) (t : ℕ) (is_x : x ≡ Ok t) (L : ListedSays w rec l.place x w₁) where
     pub can-after : CanMove text w₁ h (Known t)
     can-after = table-can text w w₁ h P answer go_on_lem leaves left_is C L.only x (known-listed x L) t is_x
 
-    pub side-listed : (w₂ : List ℕ) (r : code.Walking) → Moved text w₁ h (Known t) (side_done text l.form t at) r w₂ → Moved text w h P leaves r w₂
+    pub side-listed : (w₂ : List ℕ) (r : Result code.Walking Refusal) → Moved text w₁ h (Known t) (side_done text l.form t at) r w₂ → Moved text w h P leaves r w₂
     side-listed w₂ r M = table-found text w w₁ h P answer go_on_lem leaves left_is C L.only x (known-listed x L) t is_x (side_done text l.form t at) (λ X bodies u σ. refl) w₂ r M
 
 -- ---- a step at a type that came
@@ -364,7 +366,7 @@ module _ (text w : List ℕ) (q : Come) where
   pub come_can : (P : State → Type 0) (go : Moving) → Tells P go → CanStep text w (walking.Came q) → CanMove text w here P
   come_can P go T C = let D = come_held C in record { X = C.X; m₀ = C.m₀; base = C.base; σ = D.state; S = D.l.scope; K = D.K; held = D.at; known = T.knows C.X D.state D.l D.level D.known }
 
-  pub come_moved : (P : State → Type 0) (go : Moving) → Tells P go → (w' : List ℕ) (r : code.Walking) → Moved text w here P go r w' → Stepped text w (walking.Came q) r w'
+  pub come_moved : (P : State → Type 0) (go : Moving) → Tells P go → (w' : List ℕ) (r : Result code.Walking Refusal) → Moved text w here P go r w' → Stepped text w (walking.Came q) r w'
   come_moved P go T w' r M = record {
     says = λ X m₀ base t H g.
         let D = awaited X m₀ base t H g in
@@ -379,8 +381,5 @@ module _ (text w : List ℕ) (q : Come) where
 pub step_can : (text w : List ℕ) (s s' : code.Walking) → s ≡ s' → CanStep text w s → CanStep text w s'
 step_can text w s s' e C = subst (CanStep text w) e C
 
-pub step_as : (text w w' : List ℕ) (s s' r : code.Walking) → s ≡ s' → Stepped text w s' r w' → Stepped text w s r w'
+pub step_as : (text w w' : List ℕ) (s s' : code.Walking) (r : Result code.Walking Refusal) → s ≡ s' → Stepped text w s' r w' → Stepped text w s r w'
 step_as text w w' s s' r e Z = subst (λ (y : code.Walking). Stepped text w y r w') (sym e) Z
-
-pub step_refused : (text w : List ℕ) (s r : code.Walking) (n p : ℕ) → s ≡ walking.Refused n p → Stepped text w s r w
-step_refused text w s r n p e = step_as text w w s (walking.Refused n p) r e (record { says = λ X m₀ base t H g. absurd (refused≢good (sym H)) })

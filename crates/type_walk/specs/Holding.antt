@@ -1,7 +1,9 @@
 -- When the memory and the numbers of the walk hold a state of the machine of types: a scope and a state for the type that is wanted, the
 -- levels above it, and the words by their offset. Assumes nothing.
-use Rattle.std.specs.Prelude.{ℕ, zero, suc, ◌+◌, ◌≤◌, ◌<◌, ◌≡◌, List, [], ◌∷◌, eqb, length}
-use Rattle.calculus.specs.Answer.{Answer, good, refuse}
+use Rattle.std.specs.Prelude.{ℕ, zero, suc, ◌+◌, ◌≤◌, ◌<◌, ◌≡◌, List, [], ◌∷◌, Result, Ok, Err, eqb, length}
+use Rattle.answers.specs.declared.Refusal.{Refusal}
+use Rattle.answers.specs.Refusals.{said_why}
+use Rattle.calculus.specs.Answer.{Answer, good, refused}
 use Rattle.calculus.specs.Record.{All}
 use Rattle.notation_calculus.specs.Trees.{Text}
 use Rattle.notation_calculus.specs.Making.{State, Scope, most_entries}
@@ -94,4 +96,8 @@ pub record Coming (text w : List ℕ) (X : Text) (m₀ base : ℕ) (q : Come) (p
 abbrev pub Answered : List ℕ → List ℕ → Text → ℕ → ℕ → code.Walking → Answer Typing → Type 0
 Answered text w X m₀ base (walking.Wanted q) p = Wanting text w X m₀ base q p
 Answered text w X m₀ base (walking.Came q) p = Coming text w X m₀ base q p
-Answered text w X m₀ base (walking.Refused number place) p = p ≡ refuse number place
+
+-- .. or the walk is refused
+abbrev pub Answers : List ℕ → List ℕ → Text → ℕ → ℕ → Result code.Walking Refusal → Answer Typing → Type 0
+Answers text w X m₀ base (Ok s) p = Answered text w X m₀ base s p
+Answers text w X m₀ base (Err e) p = p ≡ refused (said_why e)

@@ -4,8 +4,6 @@ use Rattle.calculus.specs.Answer.{good}
 use Rattle.notation_calculus.specs.Trees.{TypeTree}
 use Rattle.notation_calculus.specs.Grammar.{most_nested, Got, type_at}
 use Rattle.words.specs.Lexed.{from}
-use Rattle.walks.specs.declared.TypeEnd as type
-use Rattle.walks.specs.declared.TypeEnd.TheVariants as type-end
 use Rattle.walks.specs.Says.{CanType}
 use Rattle.type_walk.specs.declared.levels.Walking as code
 use Rattle.type_walk.specs.declared.levels.Walking.TheVariants as walking
@@ -14,12 +12,6 @@ use Rattle.type_walk.specs.declared.levels.Walking.TheVariants as walking
 abbrev pub going_in : code.Walking → ℕ → Bool
 going_in (walking.Wanted q) more = true
 going_in (walking.Came q) more = ltb q.more more
-going_in (walking.Refused number place) more = false
-
-abbrev pub ended_as : code.Walking → type.TypeEnd
-ended_as (walking.Wanted q) = type-end.Refused 0 q.at
-ended_as (walking.Came q) = type-end.At q.ty q.at
-ended_as (walking.Refused number place) = type-end.Refused number place
 
 -- a type can be worked out at an offset, and the grammar reads one there
 pub record CanTypeAt (text w : List ℕ) (at more frame top : ℕ) : Type 0 where

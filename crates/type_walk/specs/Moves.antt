@@ -1,5 +1,6 @@
 -- What the functions of the walk do: in each record, whatever the memory held, the answer is that of the machine. Assumes nothing.
-use Rattle.std.specs.Prelude.{ℕ, ◌+◌, ◌≤◌, ◌<◌, ◌≡◌, Bool, false, cond, List, [], eqb, length, drop}
+use Rattle.std.specs.Prelude.{ℕ, ◌+◌, ◌≤◌, ◌<◌, ◌≡◌, Bool, false, cond, List, [], Result, eqb, length, drop}
+use Rattle.answers.specs.declared.Refusal.{Refusal}
 use Rattle.calculus.specs.Answer.{Answer, good, ◌>>=◌}
 use Rattle.notation_calculus.specs.Words.{Word, run}
 use Rattle.notation_calculus.specs.Trees.{Form, product, arrow, linear, Text}
@@ -21,7 +22,7 @@ use Rattle.type_walk.specs.declared.levels.Want.{Want}
 use Rattle.type_walk.specs.declared.levels.Here.{Here}
 use Rattle.type_walk.specs.declared.levels.Walking as code
 use Rattle.type_walk.specs.declared.levels.Walking.TheVariants as walking
-use Rattle.type_walk.specs.Holding.{given_from, AllBelow, here_with, around_of, AtLevel, Answered}
+use Rattle.type_walk.specs.Holding.{given_from, AllBelow, here_with, around_of, AtLevel, Answered, Answers}
 
 -- ---- a level that waits
 
@@ -52,9 +53,9 @@ pub record CanMove (text w : List ℕ) (h : Here) (P : State → Type 0) : Type 
 abbrev pub Moving : Type 0
 Moving = Text → List (List Word) → TypeHere → State → Answer Typing
 
-pub record Moved (text w : List ℕ) (h : Here) (P : State → Type 0) (go : Moving) (r : code.Walking) (w' : List ℕ) : Type 0 where
+pub record Moved (text w : List ℕ) (h : Here) (P : State → Type 0) (go : Moving) (r : Result code.Walking Refusal) (w' : List ℕ) : Type 0 where
   pub walked : TypesWalked (h.more + 1) h.top w w'
-  pub says : (X : Text) (m₀ base : ℕ) (σ : State) (S : Scope) (K : List TypeLevel) → AtLevel text w X m₀ base σ h S K → P σ → Answered text w' X m₀ base r (go X (row_bodies text w 0 (length X.clauses)) (here_with h S K) σ)
+  pub says : (X : Text) (m₀ base : ℕ) (σ : State) (S : Scope) (K : List TypeLevel) → AtLevel text w X m₀ base σ h S K → P σ → Answers text w' X m₀ base r (go X (row_bodies text w 0 (length X.clauses)) (here_with h S K) σ)
 
 -- a type of the table
 abbrev pub Known : ℕ → State → Type 0
@@ -73,8 +74,8 @@ pub record CanStep (text w : List ℕ) (s : code.Walking) : Type 0 where
   pub held : Answered text w X m₀ base s (good t)
   pub going : Going t
 
-pub record Stepped (text w : List ℕ) (s r : code.Walking) (w' : List ℕ) : Type 0 where
-  pub says : (X : Text) (m₀ base : ℕ) (t : Typing) → Answered text w X m₀ base s (good t) → Going t → TypesWalked m₀ base w w' × Answered text w' X m₀ base r (type_move X (row_bodies text w 0 (length X.clauses)) t)
+pub record Stepped (text w : List ℕ) (s : code.Walking) (r : Result code.Walking Refusal) (w' : List ℕ) : Type 0 where
+  pub says : (X : Text) (m₀ base : ℕ) (t : Typing) → Answered text w X m₀ base s (good t) → Going t → TypesWalked m₀ base w w' × Answers text w' X m₀ base r (type_move X (row_bodies text w 0 (length X.clauses)) t)
 
 -- ---- the parts
 
@@ -173,6 +174,6 @@ pub record CanAskBody (text w : List ℕ) (h : Here) (p : PutAt) : Type 0 where
   pub lexed : Lexed text p.end
 
 -- whatever scope and state its frame holds
-pub record BodyAsked (text w : List ℕ) (h : Here) (p : PutAt) (r : code.Walking) (w' : List ℕ) : Type 0 where
+pub record BodyAsked (text w : List ℕ) (h : Here) (p : PutAt) (r : Result code.Walking Refusal) (w' : List ℕ) : Type 0 where
   pub walked : TypesWalked (h.more + 1) h.top w w'
-  pub says : (X : Text) (m₀ base : ℕ) (σ : State) (S R : Scope) (K : List TypeLevel) → AtLevel text w X m₀ base σ h S K → Walkable text w h.more p.top X R σ → h.top ≤ p.top → Lexed text p.body → Lexed text p.end → Answered text w' X m₀ base r (good (ask_type (here_with h S K) (body (from text p.end)) false R σ (from text p.body)))
+  pub says : (X : Text) (m₀ base : ℕ) (σ : State) (S R : Scope) (K : List TypeLevel) → AtLevel text w X m₀ base σ h S K → Walkable text w h.more p.top X R σ → h.top ≤ p.top → Lexed text p.body → Lexed text p.end → Answers text w' X m₀ base r (good (ask_type (here_with h S K) (body (from text p.end)) false R σ (from text p.body)))

@@ -8,7 +8,7 @@ ghost use Rattle.type_walk.specs.Moves.{CanWait, Waited};
 use walk_levels::{Around, Level};
 
 // A type is wanted at an offset, with so many levels left, in the scope of a frame and so many entries; no arrow is read behind a tight one.
-#[derive(Clone, Copy)]
+#[derive(Clone, Copy, Debug, PartialEq, Eq)]
 pub struct Want {
     pub more: usize,
     pub tight: bool,
@@ -18,7 +18,7 @@ pub struct Want {
 }
 
 // A type came, over so many entries, and the offset behind it.
-#[derive(Clone, Copy)]
+#[derive(Clone, Copy, Debug, PartialEq, Eq)]
 pub struct Come {
     pub more: usize,
     pub top: usize,
@@ -26,15 +26,14 @@ pub struct Come {
     pub at: usize,
 }
 
-#[derive(Clone, Copy)]
+#[derive(Clone, Copy, Debug, PartialEq, Eq)]
 pub enum Walking {
     Wanted(Want),
     Came(Come),
-    Refused(u8, usize),
 }
 
 // The level that the walk is at: the levels that there may still be below it, and its scope.
-#[derive(Clone, Copy)]
+#[derive(Clone, Copy, Debug, PartialEq, Eq)]
 pub struct Here {
     pub more: usize,
     pub tight: bool,
@@ -45,10 +44,7 @@ pub struct Here {
 pub fn flag_of(tight: bool) -> u16
     ensures { result ≡ flag_number tight }
 {
-    if tight {
-        return 1;
-    }
-    0
+    u16::from(tight)
 }
 
 // The level waits for the type that is wanted now.
@@ -86,7 +82,7 @@ pub fn here_at(work: &[u16], more: usize) -> Here
     Here {
         more,
         tight: l.flag == 1,
-        frame: made_types::wide(s.frame),
-        top: made_types::wide(s.top),
+        frame: usize::from(s.frame),
+        top: usize::from(s.top),
     }
 }

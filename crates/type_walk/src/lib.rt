@@ -10,12 +10,16 @@ pub mod steps;
 
 ghost use Rattle.std.specs.Prelude.{◌≡◌};
 ghost use Rattle.walks.specs.Says.{CanType, TypeSays, TypesSay};
-ghost use Rattle.type_walk.specs.Loop.{going_in, ended_as, CanTypeAt};
-ghost use Rattle.type_walk.specs.Many.{CanTypeAll, AllTypesSay, types_refused};
+ghost use Rattle.type_walk.specs.Loop.{going_in, CanTypeAt};
+ghost use Rattle.type_walk.specs.Many.{CanTypeAll, AllTypesSay};
 
 use crate::levels::{Walking, Want};
+use answers::{Reason, Refusal};
 use grammar::steps::{COMMA, SQUARE};
 use walks::{TypeEnd, TypesEnd};
+
+// So many entries may be in scope.
+const MOST: usize = making_memory::MOST_ENTRIES as usize;
 
 // More steps than any walk takes: `type_start`, for a text of 65,535 bytes.
 const STEPS: u64 = 4295032831;
@@ -27,22 +31,12 @@ fn going(s: Walking, more: usize) -> bool
     match s {
         Walking::Wanted(_) => true,
         Walking::Came(q) => q.more < more,
-        Walking::Refused(_, _) => false,
-    }
-}
-
-fn ended(s: Walking) -> TypeEnd
-    ensures { result ≡ ended_as s }
-{
-    match s {
-        Walking::Wanted(q) => TypeEnd::Refused(0, q.at),
-        Walking::Came(q) => TypeEnd::At(q.ty, q.at),
-        Walking::Refused(number, place) => TypeEnd::Refused(number, place),
     }
 }
 
 // The type at an offset where the grammar has read one. The counter only shows that the loop ends: it begins at more steps than the machine can
 // take, and `type_falls` says that it never reaches 0 too early. A measure read off the levels would have to be worked out from the memory.
+// A `for` over so many steps is no plainer: the test would stay in the loop, and behind it would stand `unreachable!()` too.
 fn type_at(
     text: &[u8],
     work: &mut [u16],
@@ -50,7 +44,7 @@ fn type_at(
     more: usize,
     frame: usize,
     top: usize,
-) -> TypeEnd
+) -> Result<TypeEnd, Refusal>
     requires { CanTypeAt text.now work.old at more frame top }
     ensures { TypeSays text.now work.old at more frame top result work.new }
 {
@@ -63,10 +57,16 @@ fn type_at(
     });
     let mut left = STEPS;
     while going(s, more) {
-        s = steps::step(text, work, s);
+        s = steps::step(text, work, s)?;
         left = left - 1;
     }
-    ended(s)
+    match s {
+        Walking::Came(q) => Ok(TypeEnd {
+            ty: q.ty,
+            end: q.at,
+        }),
+        Walking::Wanted(_) => unreachable!(),
+    }
 }
 
 // The type at an offset, as a walk of terms wants it: read by the grammar, then worked out.
@@ -77,14 +77,11 @@ pub fn type_from(
     more: usize,
     frame: usize,
     top: usize,
-) -> TypeEnd
+) -> Result<TypeEnd, Refusal>
     requires { CanType text.now work.old at more frame top }
     ensures { TypeSays text.now work.old at more frame top result work.new }
 {
-    let e = grammar::types::type_end(text, at, 80, false);
-    if e.number != 0 {
-        return TypeEnd::Refused(e.number, e.at);
-    }
+    grammar::types::type_end(text, at, 80, false)?;
     type_at(text, work, at, more, frame, top)
 }
 
@@ -97,35 +94,24 @@ fn arguments(
     frame: usize,
     top: usize,
     name: usize,
-) -> TypesEnd
+) -> Result<TypesEnd, Refusal>
     requires { CanTypeAll text.now work.old at more frame top }
     ensures { AllTypesSay text.now work.old at more frame top name result work.new }
 {
-    let mut i: usize = 0;
     let mut p = at;
-    while scopes::entries::has_room(top, i + 1) {
-        let t = type_from(text, work, p, more, frame, top + i);
-        let TypeEnd::At(ty, end) = t else {
-            return types_refused(t);
-        };
-        scopes::entries::bind(work, top + i, 0, made_types::wide(ty));
-        i = i + 1;
-        let c = words::word_at(text, end);
+    for i in 0..MOST - top {
+        let t = type_from(text, work, p, more, frame, top + i)?;
+        scopes::entries::bind(work, top + i, 0, usize::from(t.ty));
+        let c = words::word_at(text, t.end);
         if c.kind != COMMA {
-            return TypesEnd::At(i, c.end);
+            return Ok(TypesEnd {
+                count: i + 1,
+                end: c.end,
+            });
         }
         p = c.end;
     }
-    TypesEnd::Refused(34, name)
-}
-
-fn types_refused(t: TypeEnd) -> TypesEnd
-    ensures { result ≡ types_refused t }
-{
-    match t {
-        TypeEnd::At(_, end) => TypesEnd::Refused(0, end),
-        TypeEnd::Refused(number, place) => TypesEnd::Refused(number, place),
-    }
+    Err(Reason::TextLimit.at(name))
 }
 
 // [ type, type ] behind a name of a term at a place, or nothing.
@@ -137,17 +123,14 @@ pub fn types_from(
     frame: usize,
     top: usize,
     name: usize,
-) -> TypesEnd
+) -> Result<TypesEnd, Refusal>
     requires { CanType text.now work.old at more frame top }
     ensures { TypesSay text.now work.old at more frame top name result work.new }
 {
     let w = words::marks::mark_at(text, at);
     if w.kind != SQUARE {
-        return TypesEnd::At(0, at);
+        return Ok(TypesEnd { count: 0, end: at });
     }
-    let e = grammar::types::arguments_end(text, at, 80);
-    if e.number != 0 {
-        return TypesEnd::Refused(e.number, e.at);
-    }
+    grammar::types::arguments_end(text, at, 80)?;
     arguments(text, work, w.end, more, frame, top, name)
 }

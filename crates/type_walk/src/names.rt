@@ -7,9 +7,10 @@ ghost use Rattle.type_walk.specs.Moves.{CanMove, Moved, NameAt, Given, Valued, A
 
 use crate::levels::{Here, Walking, Want};
 use crate::{levels, sides};
+use answers::{Reason, Refusal};
 use grammar::steps::{CURLY, SQUARE};
 use walk_levels::Level;
-use walks::{PutAt, PutEnd};
+use walks::PutAt;
 
 // The next argument is wanted, of a name at a place, where so many wait already.
 pub fn ask_argument(
@@ -19,12 +20,12 @@ pub fn ask_argument(
     name: usize,
     given: usize,
     at: usize,
-) -> Walking
+) -> Result<Walking, Refusal>
     requires { (CanMove text.now work.old h (Given work.old h.top given)) × ((Lexed text.now at) × ((name ≤ length text.now) × (Places text.now work.old 0 (h.top + given)))) }
     ensures { Moved text.now work.old h (Given work.old h.top given) (argument_ask text.now work.old h.top name given at) result work.new }
 {
     if !scopes::entries::has_room(h.top, given + 1) {
-        return Walking::Refused(34, name);
+        return Err(Reason::TextLimit.at(name));
     }
     let l = Level {
         form: 2,
@@ -43,11 +44,11 @@ pub fn ask_argument(
         top: h.top + given,
         at,
     };
-    levels::wait(work, h, l, q)
+    Ok(levels::wait(work, h, l, q))
 }
 
 // The body of a definition that was put in is wanted.
-fn ask_body(text: &[u8], work: &mut [u16], h: Here, p: PutAt) -> Walking
+fn ask_body(text: &[u8], work: &mut [u16], h: Here, p: PutAt) -> Result<Walking, Refusal>
     requires { CanAskBody text.now work.old h p }
     ensures { BodyAsked text.now work.old h p result work.new }
 {
@@ -68,7 +69,7 @@ fn ask_body(text: &[u8], work: &mut [u16], h: Here, p: PutAt) -> Walking
         top: p.top,
         at: p.body,
     };
-    levels::wait(work, h, l, q)
+    Ok(levels::wait(work, h, l, q))
 }
 
 // The type arguments wait as entries: the definition is put in.
@@ -79,19 +80,22 @@ pub fn put_type(
     name: usize,
     given: usize,
     at: usize,
-) -> Walking
+) -> Result<Walking, Refusal>
     requires { (CanMove text.now work.old h (Valued work.old h.top given)) × ((Lexed text.now at) × ((name ≤ length text.now) × (h.top + given ≤ most_entries))) }
     ensures { Moved text.now work.old h (Valued work.old h.top given) (put_after text.now work.old h.top name given at) result work.new }
 {
-    let p = putting::put_in(text, work, true, name, at, given, h.frame, h.top, h.more);
-    match p {
-        PutEnd::At(q) => ask_body(text, work, h, q),
-        PutEnd::Refused(number, place) => Walking::Refused(number, place),
-    }
+    let p = putting::put_in(text, work, true, name, at, given, h.frame, h.top, h.more)?;
+    ask_body(text, work, h, p)
 }
 
 // A name without arguments: a parameter of the definition, or a definition.
-fn plain_at(text: &[u8], work: &mut [u16], h: Here, name: usize, at: usize) -> Walking
+fn plain_at(
+    text: &[u8],
+    work: &mut [u16],
+    h: Here,
+    name: usize,
+    at: usize,
+) -> Result<Walking, Refusal>
     requires { (CanMove text.now work.old h Anything) × ((Lexed text.now at) × (NameAt text.now name)) }
     ensures { Moved text.now work.old h Anything (plain_after text.now name at) result work.new }
 {
@@ -105,7 +109,13 @@ fn plain_at(text: &[u8], work: &mut [u16], h: Here, name: usize, at: usize) -> W
 }
 
 // Behind a name at a place.
-pub fn named_at(text: &[u8], work: &mut [u16], h: Here, name: usize, at: usize) -> Walking
+pub fn named_at(
+    text: &[u8],
+    work: &mut [u16],
+    h: Here,
+    name: usize,
+    at: usize,
+) -> Result<Walking, Refusal>
     requires { (CanMove text.now work.old h Anything) × ((Lexed text.now at) × (NameAt text.now name)) }
     ensures { Moved text.now work.old h Anything (named_after text.now name at) result work.new }
 {

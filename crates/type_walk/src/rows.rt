@@ -5,43 +5,47 @@ ghost use Rattle.type_walk.specs.Moves.{CanMove, Moved, Anything, row_after, pow
 
 use crate::levels::{Here, Walking};
 use crate::sides;
-use made_types::FoundType;
+use answers::{Reason, Refusal};
 
 // A bit and so many more left of it, listed at the place of the sign; then what stands behind them.
-fn row_from(text: &[u8], work: &mut [u16], h: Here, more: usize, sign: usize, end: usize) -> Walking
+fn row_from(
+    text: &[u8],
+    work: &mut [u16],
+    h: Here,
+    more: usize,
+    sign: usize,
+    end: usize,
+) -> Result<Walking, Refusal>
     requires { (CanMove text.now work.old h Anything) × ((Lexed text.now end) × (sign ≤ length text.now)) }
     ensures { Moved text.now work.old h Anything (row_after text.now more sign end) result work.new }
 {
-    let t = made_types::row(work, more, sign as u16);
-    match t {
-        FoundType::At(t) => sides::side_from(text, work, h, t, end),
-        FoundType::Refused(number, place) => Walking::Refused(number, made_types::wide(place)),
-    }
+    let t = made_types::row(work, more, sign as u16)?;
+    sides::side_from(text, work, h, t, end)
 }
 
 // Behind the sign at a place: how many bits there are. None is no type.
-fn power_at(text: &[u8], work: &mut [u16], h: Here, sign: usize, at: usize) -> Walking
+fn power_at(
+    text: &[u8],
+    work: &mut [u16],
+    h: Here,
+    sign: usize,
+    at: usize,
+) -> Result<Walking, Refusal>
     requires { (CanMove text.now work.old h Anything) × ((Lexed text.now at) × (sign ≤ length text.now)) }
     ensures { Moved text.now work.old h Anything (power_after text.now sign at) result work.new }
 {
-    let e = grammar::steps::number_end(text, at);
-    if e.number != 0 {
-        return Walking::Refused(e.number, e.at);
-    }
+    grammar::steps::number_end(text, at)?;
     let f = scopes::frames::frame_at(work, h.frame);
-    let v = scopes::arguments::value_at(text, work, at, f);
-    if v.number != 0 {
-        return Walking::Refused(v.number, v.value);
-    }
+    let v = scopes::arguments::value_at(text, work, at, f)?;
     if v.value == 0 {
         let w = words::word_at(text, at);
-        return Walking::Refused(33, w.start);
+        return Err(Reason::UnknownName.at(w.start));
     }
     row_from(text, work, h, v.value - 1, sign, v.end)
 }
 
 // Behind a 1.
-pub fn ones_from(text: &[u8], work: &mut [u16], h: Here, at: usize) -> Walking
+pub fn ones_from(text: &[u8], work: &mut [u16], h: Here, at: usize) -> Result<Walking, Refusal>
     requires { (CanMove text.now work.old h Anything) × (Lexed text.now at) }
     ensures { Moved text.now work.old h Anything (ones_after text.now at) result work.new }
 {

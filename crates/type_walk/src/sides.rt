@@ -5,6 +5,7 @@ ghost use Rattle.type_walk.specs.Moves.{CanMove, Moved, Known, done_at, side_ask
 
 use crate::levels;
 use crate::levels::{Come, Here, Walking, Want};
+use answers::Refusal;
 use walk_levels::Level;
 
 const ARROW: u8 = 8;
@@ -36,7 +37,7 @@ fn ask_side(
     ty: u16,
     sign: usize,
     end: usize,
-) -> Walking
+) -> Result<Walking, Refusal>
     requires { (CanMove text.now work.old h (Known ty)) × ((Lexed text.now end) × ((sign ≤ length text.now) × ((3 ≤ form) × (form ≤ 5)))) }
     ensures { Moved text.now work.old h (Known ty) (side_ask text.now form tight ty sign end) result work.new }
 {
@@ -57,16 +58,22 @@ fn ask_side(
         top: h.top,
         at: end,
     };
-    levels::wait(work, h, l, q)
+    Ok(levels::wait(work, h, l, q))
 }
 
 // Behind an atom with its product.
-pub fn arrow_from(text: &[u8], work: &mut [u16], h: Here, ty: u16, at: usize) -> Walking
+pub fn arrow_from(
+    text: &[u8],
+    work: &mut [u16],
+    h: Here,
+    ty: u16,
+    at: usize,
+) -> Result<Walking, Refusal>
     requires { (CanMove text.now work.old h (Known ty)) × (Lexed text.now at) }
     ensures { Moved text.now work.old h (Known ty) (arrow_after text.now ty at) result work.new }
 {
     if h.tight {
-        return done(h, ty, at);
+        return Ok(done(h, ty, at));
     }
     let w = words::marks::mark_at(text, at);
     if w.kind == ARROW {
@@ -75,11 +82,17 @@ pub fn arrow_from(text: &[u8], work: &mut [u16], h: Here, ty: u16, at: usize) ->
     if w.kind == LINEAR {
         return ask_side(text, work, h, 5, false, ty, w.start, w.end);
     }
-    done(h, ty, at)
+    Ok(done(h, ty, at))
 }
 
 // Behind an atom.
-pub fn side_from(text: &[u8], work: &mut [u16], h: Here, ty: u16, at: usize) -> Walking
+pub fn side_from(
+    text: &[u8],
+    work: &mut [u16],
+    h: Here,
+    ty: u16,
+    at: usize,
+) -> Result<Walking, Refusal>
     requires { (CanMove text.now work.old h (Known ty)) × (Lexed text.now at) }
     ensures { Moved text.now work.old h (Known ty) (side_after text.now ty at) result work.new }
 {

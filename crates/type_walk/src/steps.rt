@@ -11,8 +11,9 @@ ghost use Rattle.type_walk.specs.declared.levels.Walking.TheVariants as walking;
 
 use crate::levels::{Come, Here, Walking, Want};
 use crate::{levels, names, rows, sides};
+use answers::{Reason, Refusal};
 use grammar::steps::{COMMA, END_SQUARE};
-use made_types::{FoundType, Record};
+use made_types::Record;
 use walk_levels::Level;
 
 const ROUND: u8 = 11;
@@ -22,7 +23,7 @@ const END_ROUND: u8 = 12;
 // ---- a type is wanted
 
 // Behind an opening parenthesis.
-fn ask_inside(text: &[u8], work: &mut [u16], h: Here, at: usize) -> Walking
+fn ask_inside(text: &[u8], work: &mut [u16], h: Here, at: usize) -> Result<Walking, Refusal>
     requires { (CanMove text.now work.old h Anything) × (Lexed text.now at) }
     ensures { Moved text.now work.old h Anything (inside_ask text.now at) result work.new }
 {
@@ -43,11 +44,11 @@ fn ask_inside(text: &[u8], work: &mut [u16], h: Here, at: usize) -> Walking
         top: h.top,
         at,
     };
-    levels::wait(work, h, l, q)
+    Ok(levels::wait(work, h, l, q))
 }
 
 // A type begins at an offset.
-fn enter(text: &[u8], work: &mut [u16], h: Here, at: usize) -> Walking
+fn enter(text: &[u8], work: &mut [u16], h: Here, at: usize) -> Result<Walking, Refusal>
     requires { (CanMove text.now work.old h Anything) × (Lexed text.now at) }
     ensures { Moved text.now work.old h Anything (enter_at text.now at) result work.new }
 {
@@ -61,16 +62,16 @@ fn enter(text: &[u8], work: &mut [u16], h: Here, at: usize) -> Walking
     if w.kind == ROUND {
         return ask_inside(text, work, h, w.end);
     }
-    Walking::Refused(32, w.start)
+    Err(Reason::OtherWordDue.at(w.start))
 }
 
-fn want_step(text: &[u8], work: &mut [u16], q: Want) -> Walking
+fn want_step(text: &[u8], work: &mut [u16], q: Want) -> Result<Walking, Refusal>
     requires { CanStep text.now work.old (walking.Wanted q) }
     ensures { Stepped text.now work.old (walking.Wanted q) result work.new }
 {
     if q.more == 0 {
         let w = words::word_at(text, q.at);
-        return Walking::Refused(34, w.start);
+        return Err(Reason::TextLimit.at(w.start));
     }
     let h = Here {
         more: q.more - 1,
@@ -83,7 +84,13 @@ fn want_step(text: &[u8], work: &mut [u16], q: Want) -> Walking
 
 // ---- a type came
 
-fn behind_inside(text: &[u8], work: &mut [u16], h: Here, ty: u16, at: usize) -> Walking
+fn behind_inside(
+    text: &[u8],
+    work: &mut [u16],
+    h: Here,
+    ty: u16,
+    at: usize,
+) -> Result<Walking, Refusal>
     requires { (CanMove text.now work.old h (Known ty)) × (Lexed text.now at) }
     ensures { Moved text.now work.old h (Known ty) (left_with text.now enclosed ty at) result work.new }
 {
@@ -91,7 +98,7 @@ fn behind_inside(text: &[u8], work: &mut [u16], h: Here, ty: u16, at: usize) -> 
     if w.kind == END_ROUND {
         return sides::side_from(text, work, h, ty, w.end);
     }
-    Walking::Refused(32, w.start)
+    Err(Reason::OtherWordDue.at(w.start))
 }
 
 // The argument waits too; behind it a comma, or the closing bracket.
@@ -103,11 +110,11 @@ fn behind_argument(
     given: usize,
     ty: u16,
     at: usize,
-) -> Walking
+) -> Result<Walking, Refusal>
     requires { (CanMove text.now work.old h (Both (Known ty) (Given work.old h.top given))) × ((Lexed text.now at) × ((name ≤ length text.now) × ((h.top + given < most_entries) × (Places text.now work.old 0 (h.top + given))))) }
     ensures { Moved text.now work.old h (Both (Known ty) (Given work.old h.top given)) (left_with text.now (argument (bound_at text.now name) (given_from work.old h.top given)) ty at) result work.new }
 {
-    scopes::entries::bind(work, h.top + given, 0, made_types::wide(ty));
+    scopes::entries::bind(work, h.top + given, 0, usize::from(ty));
     let w = words::word_at(text, at);
     if w.kind == COMMA {
         return names::ask_argument(text, work, h, name, given + 1, w.end);
@@ -115,22 +122,36 @@ fn behind_argument(
     if w.kind == END_SQUARE {
         return names::put_type(text, work, h, name, given + 1, w.end);
     }
-    Walking::Refused(32, w.start)
+    Err(Reason::OtherWordDue.at(w.start))
 }
 
 // Behind the other side: a product may have an arrow behind it.
-fn after_side(text: &[u8], work: &mut [u16], h: Here, form: u16, ty: u16, at: usize) -> Walking
+fn after_side(
+    text: &[u8],
+    work: &mut [u16],
+    h: Here,
+    form: u16,
+    ty: u16,
+    at: usize,
+) -> Result<Walking, Refusal>
     requires { (CanMove text.now work.old h (Known ty)) × (Lexed text.now at) }
     ensures { Moved text.now work.old h (Known ty) (side_done text.now form ty at) result work.new }
 {
     if form == 3 {
         return sides::arrow_from(text, work, h, ty, at);
     }
-    sides::done(h, ty, at)
+    Ok(sides::done(h, ty, at))
 }
 
 // Both sides of a sign are there, and are listed.
-fn behind_side(text: &[u8], work: &mut [u16], h: Here, l: Level, ty: u16, at: usize) -> Walking
+fn behind_side(
+    text: &[u8],
+    work: &mut [u16],
+    h: Here,
+    l: Level,
+    ty: u16,
+    at: usize,
+) -> Result<Walking, Refusal>
     requires { (CanMove text.now work.old h (Both (Known l.ty) (Known ty))) × ((Lexed text.now at) × ((3 ≤ l.form) × (l.form ≤ 5))) }
     ensures { Moved text.now work.old h (Both (Known l.ty) (Known ty)) (left_with text.now (other (form_by l.form) l.place l.ty) ty at) result work.new }
 {
@@ -139,14 +160,11 @@ fn behind_side(text: &[u8], work: &mut [u16], h: Here, l: Level, ty: u16, at: us
         left: l.ty,
         right: ty,
     };
-    let t = made_types::listed(work, r, l.place);
-    match t {
-        FoundType::At(t) => after_side(text, work, h, l.form, t, at),
-        FoundType::Refused(number, place) => Walking::Refused(number, made_types::wide(place)),
-    }
+    let t = made_types::listed(work, r, l.place)?;
+    after_side(text, work, h, l.form, t, at)
 }
 
-fn come_step(text: &[u8], work: &mut [u16], q: Come) -> Walking
+fn come_step(text: &[u8], work: &mut [u16], q: Come) -> Result<Walking, Refusal>
     requires { CanStep text.now work.old (walking.Came q) }
     ensures { Stepped text.now work.old (walking.Came q) result work.new }
 {
@@ -156,23 +174,22 @@ fn come_step(text: &[u8], work: &mut [u16], q: Come) -> Walking
         return behind_inside(text, work, h, q.ty, q.at);
     }
     if l.form == 1 {
-        return sides::side_from(text, work, h, q.ty, made_types::wide(l.next));
+        return sides::side_from(text, work, h, q.ty, usize::from(l.next));
     }
     if l.form == 2 {
-        let name = made_types::wide(l.place);
-        let given = made_types::wide(l.count);
+        let name = usize::from(l.place);
+        let given = usize::from(l.count);
         return behind_argument(text, work, h, name, given, q.ty, q.at);
     }
     behind_side(text, work, h, l, q.ty, q.at)
 }
 
-pub fn step(text: &[u8], work: &mut [u16], s: Walking) -> Walking
+pub fn step(text: &[u8], work: &mut [u16], s: Walking) -> Result<Walking, Refusal>
     requires { CanStep text.now work.old s }
     ensures { Stepped text.now work.old s result work.new }
 {
     match s {
         Walking::Wanted(q) => want_step(text, work, q),
         Walking::Came(q) => come_step(text, work, q),
-        Walking::Refused(number, place) => Walking::Refused(number, place),
     }
 }

@@ -22,6 +22,8 @@ use Rattle.records.specs.declared.Rule.{Rule}
 use Rattle.records.specs.declared.Rule.TheVariants as rule
 use Rattle.sheet_theorems.proofs.Standing.{fun_body, app_function, app_argument, lfun_body, lapp_function, lapp_argument, pair_first, pair_second, proj_pair, proj_body, fix_body, name-first, name_body}
 use Rattle.sheet_theorems.specs.Numbers.{Numbers}
+use Rattle.std.specs.declared.option.Option.{Option}
+use Rattle.std.specs.declared.option.Option.TheVariants.{Some, None}
 use Rattle.typing.specs.declared.rules.Opening.{Opening}
 use Rattle.typing.specs.declared.rules.Opening.TheVariants as opening
 use Rattle.records.specs.TypeNumbers.{kind_no, left_no, right_no}
@@ -32,11 +34,11 @@ use Rattle.typing.proofs.WalkLaws.{first_subterm, second_of}
 
 -- ---- the binders that entering adds
 
-abbrev OpensIn : ℕ → Opening → Type 0
-OpensIn l opening.Nothing = Unit {0}
-OpensIn l (opening.Shared t) = t < l
-OpensIn l (opening.Linear t) = t < l
-OpensIn l opening.Misfit = Unit {0}
+abbrev OpensIn : ℕ → Option Opening → Type 0
+OpensIn l (Some opening.Nothing) = Unit {0}
+OpensIn l (Some (opening.Shared t)) = t < l
+OpensIn l (Some (opening.Linear t)) = t < l
+OpensIn l None = Unit {0}
 
 -- a stack in the table's range, of at most so many binders
 pub record InRange (l m : ℕ) (st : Stack) : Type 0 where
@@ -58,11 +60,11 @@ module _ (l : ℕ) where
   opening-in rule.Constant t q h g = tt
   opening-in rule.Naming t q h g = tt
 
-  opened_in : (x : Opening) (t n : ℕ) (st : Stack) (o : Found) → OpensIn l x → Numbers st l → opened_stack x t n st ≡ good o → InRange l (suc (length st)) o.stack
-  opened_in opening.Nothing t n st o h k e = subst (λ (o : Found). InRange l (suc (length st)) o.stack) (good-inj e) (record { numbers = k; few = omega arith })
-  opened_in (opening.Shared u) t n st o h k e = subst (λ (o : Found). InRange l (suc (length st)) o.stack) (good-inj e) (record { numbers = (h, k); few = omega arith })
-  opened_in (opening.Linear u) t n st o h k e = subst (λ (o : Found). InRange l (suc (length st)) o.stack) (good-inj e) (record { numbers = (h, k); few = omega arith })
-  opened_in opening.Misfit t n st o h k e = absurd (refused≢good e)
+  opened_in : (x : Option Opening) (t n : ℕ) (st : Stack) (o : Found) → OpensIn l x → Numbers st l → opened_stack x t n st ≡ good o → InRange l (suc (length st)) o.stack
+  opened_in (Some opening.Nothing) t n st o h k e = subst (λ (o : Found). InRange l (suc (length st)) o.stack) (good-inj e) (record { numbers = k; few = omega arith })
+  opened_in (Some (opening.Shared u)) t n st o h k e = subst (λ (o : Found). InRange l (suc (length st)) o.stack) (good-inj e) (record { numbers = (h, k); few = omega arith })
+  opened_in (Some (opening.Linear u)) t n st o h k e = subst (λ (o : Found). InRange l (suc (length st)) o.stack) (good-inj e) (record { numbers = (h, k); few = omega arith })
+  opened_in None t n st o h k e = absurd (refused≢good e)
 
 -- ---- a node's subterms
 
@@ -260,25 +262,25 @@ module _ (s : List ℕ) (l : ℕ) (E : Edition) (at node : ℕ) (Θ : Table) (st
   enter-in (var i) F d o g = absurd (d refl)
   enter-in (lvar i) F d o g = absurd (d refl)
   enter-in (fun t e) F d o g = typed-in (fun t e) F rule.Function t F.ranged.0 o g
-  enter-in (app f a) F d o g = opened_in (length Θ) opening.Nothing 0 node st o tt F.numbers g
+  enter-in (app f a) F d o g = opened_in (length Θ) (Some opening.Nothing) 0 node st o tt F.numbers g
   enter-in (lfun t e) F d o g = typed-in (lfun t e) F rule.LinearFunction t F.ranged.0 o g
-  enter-in (lapp f a) F d o g = opened_in (length Θ) opening.Nothing 0 node st o tt F.numbers g
+  enter-in (lapp f a) F d o g = opened_in (length Θ) (Some opening.Nothing) 0 node st o tt F.numbers g
   enter-in (pair t a b) F d o g = typed-in (pair t a b) F rule.Pair t F.ranged.0 o g
-  enter-in (proj a e) F d o g = opened_in (length Θ) opening.Nothing 0 node st o tt F.numbers g
+  enter-in (proj a e) F d o g = opened_in (length Θ) (Some opening.Nothing) 0 node st o tt F.numbers g
   enter-in (fix t e) F d o g = typed-in (fix t e) F rule.FixedPoint t F.ranged.0 o g
   enter-in (con p t) F d o g = absurd (d refl)
-  enter-in (name a e) F d o g = opened_in (length Θ) opening.Nothing 0 node st o tt F.numbers g
+  enter-in (name a e) F d o g = opened_in (length Θ) (Some opening.Nothing) 0 node st o tt F.numbers g
 
   -- a node with one subterm binds a variable on entering
-  bound-one : (b : Bool) (x : Opening) (t : ℕ) (o : Found) → ((q : Found) → opened_stack x t node st ≡ good q → length q.stack ≡ length st + 1)
-      → opened_stack (cond b x opening.Misfit) t node st ≡ good o → length o.stack ≡ length st + 1
+  bound-one : (b : Bool) (x : Opening) (t : ℕ) (o : Found) → ((q : Found) → opened_stack (Some x) t node st ≡ good q → length q.stack ≡ length st + 1)
+      → opened_stack (cond b (Some x) None) t node st ≡ good o → length o.stack ≡ length st + 1
   bound-one true x t o f g = f o g
   bound-one false x t o f g = absurd (refused≢good g)
 
-  bound-shared : (u t : ℕ) (o : Found) → opened_stack (opening.Shared u) t node st ≡ good o → length o.stack ≡ length st + 1
+  bound-shared : (u t : ℕ) (o : Found) → opened_stack (Some (opening.Shared u)) t node st ≡ good o → length o.stack ≡ length st + 1
   bound-shared u t o g = omega (arith, ap (λ (x : Found). length x.stack) (good-inj g))
 
-  bound-linear : (u t : ℕ) (o : Found) → opened_stack (opening.Linear u) t node st ≡ good o → length o.stack ≡ length st + 1
+  bound-linear : (u t : ℕ) (o : Found) → opened_stack (Some (opening.Linear u)) t node st ≡ good o → length o.stack ≡ length st + 1
   bound-linear u t o g = omega (arith, ap (λ (x : Found). length x.stack) (good-inj g))
 
   pub enter_one : (e : Term) → (node_of e at).subterms ≡ 1 → (o : Found)
@@ -297,7 +299,7 @@ module _ (s : List ℕ) (l : ℕ) (E : Edition) (at node : ℕ) (Θ : Table) (st
   enter_one (name a e) z o g = absurd (omega arith)
 
   -- a node with two subterms binds nothing on entering
-  tested : (b : Bool) (t : ℕ) (o : Found) → opened_stack (cond b opening.Nothing opening.Misfit) t node st ≡ good o → o.stack ≡ st
+  tested : (b : Bool) (t : ℕ) (o : Found) → opened_stack (cond b (Some opening.Nothing) None) t node st ≡ good o → o.stack ≡ st
   tested true t o g = ap (λ (x : Found). x.stack) (sym (good-inj g))
   tested false t o g = absurd (refused≢good g)
 

@@ -10,7 +10,8 @@ use Rattle.sheet_theorems.proofs.Laying.{records-laid, records_edition}
 use Rattle.sheet_theorems.proofs.Standing.{sheet-stands}
 use Rattle.binders.specs.declared.Binders.{Binders}
 use Rattle.binders.specs.Stacks.{stack_of}
-use Rattle.typing.specs.declared.Verdict.TheVariants as verdict
+use Rattle.std.specs.declared.result.Result.TheVariants.{Err}
+use Rattle.typing.specs.Verdicts.{fine_at}
 use Rattle.answers.specs.declared.Refusal.{Refusal}
 use Rattle.typing.specs.declared.Checked.{Checked}
 use Rattle.answers.specs.Refusals.{said_why}
@@ -40,10 +41,10 @@ module _ {s : List ℕ} {l : ℕ} {E : Edition} {at : ℕ} (term : TermAt s l E 
     walk-said : said (held b c) ≡ walk E term.sheet.table term.sheet.term 0 []
     walk-said = (w _ _ sheet-fits).answer ∙ ap (λ (x : Stack). walk E term.sheet.table term.sheet.term 0 x) empty
 
-    pub check-fine : {t i j : ℕ} → c.verdict ≡ verdict.Fine t i j → good t ≡ check_of E s
+    pub check-fine : {t i j : ℕ} → c.verdict ≡ fine_at t i j → good t ≡ check_of E s
     unfolding check_of
     check-fine v = rw (term.read, records_edition E s term.sheet term.read, ← walk-said, said_fine (held b c) v)
 
-    pub check_refused : {r : Refusal} → c.verdict ≡ verdict.Refused r → refused (said_why r) ≡ check_of E s
+    pub check_refused : {r : Refusal} → c.verdict ≡ Err r → refused (said_why r) ≡ check_of E s
     unfolding check_of
     check_refused v = rw (term.read, records_edition E s term.sheet term.read, ← walk-said, said_refused (held b c) v)

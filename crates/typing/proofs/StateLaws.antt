@@ -1,6 +1,6 @@
 -- Laws of the steps of the walk that change the binders, by what the code has tested. Assumes nothing.
 use Prim.Native.Nat.{ℕ, ◌+◌, ◌≤◌, ◌<◌}
-use mathlib.Core.Path.{◌≡◌, refl, sym, ◌∙◌, subst}
+use mathlib.Core.Path.{◌≡◌, refl, ◌∙◌, subst}
 use mathlib.Core.Bool.{Bool, true, false, cond}
 use mathlib.Core.List.{List, [], ◌∷◌}
 use denote.Enum.Declared.{tag_of}
@@ -18,21 +18,20 @@ use Rattle.records.specs.declared.Rule.{Rule}
 use Rattle.records.specs.declared.Rule.TheVariants as rule
 use Rattle.records.specs.contracts.Rule.{the_type}
 use Rattle.binders.specs.declared.Binders.{Binders}
-use Rattle.binders.specs.declared.Use.{Use}
-use Rattle.binders.specs.Stacks.{bits_of, with_bit, binder_of, stack_from, stack_of, slot_of, shared_use, linear_use, said_use}
+use Rattle.binders.specs.Stacks.{Use, bits_of, with_bit, binder_of, stack_from, stack_of, slot_of, shared_use, linear_use, said_use}
 use Rattle.binders.proofs.Laws.{past, past-kept, pushed, shared-said, linear-said}
 use Rattle.binders.proofs.Bits.{bits_set, bits_length}
 use Rattle.typing.specs.declared.rules.Halves.{Halves}
 use Rattle.typing.specs.declared.rules.Opening.{Opening}
 use Rattle.typing.specs.declared.rules.Opening.TheVariants as opening
 use Rattle.typing.specs.declared.rules.Binding.{Binding}
-use Rattle.typing.specs.declared.rules.Fit.{Fit}
-use Rattle.typing.specs.declared.rules.Fit.TheVariants as how
-use Rattle.typing.specs.declared.Verdict.{Verdict}
-use Rattle.typing.specs.declared.Verdict.TheVariants as verdict
+use Rattle.std.specs.declared.result.Result.TheVariants.{Ok, Err}
+use Rattle.std.specs.declared.option.Option.TheVariants.{Some, None}
+use Rattle.typing.specs.Verdicts.{Verdict, fine_at}
+use Rattle.typing.specs.declared.rules.Misfit.{Misfit}
 use Rattle.answers.specs.declared.Refusal.{Refusal}
 use Rattle.records.specs.TypeNumbers.{left_no, right_no}
-use Rattle.typing.specs.Steps.{Types, constant_of, leaf_of, opening_of, binding_of, opened_stack, enter_of, wanted_of, used_up, leave_one, enters_of, halves_in, halves_of, between_of, joined_of, closes_of, leave_two}
+use Rattle.typing.specs.Steps.{Types, Fitting, constant_of, leaf_of, opening_of, binding_of, opened_stack, enter_of, wanted_of, used_up, leave_one, enters_of, halves_in, halves_of, between_of, joined_of, closes_of, leave_two}
 use Rattle.typing.specs.Verdicts.{Held, reached, halves, FollowsOn, FollowsHeld}
 use Rattle.typing.specs.Walkable.{CountsOf, Names}
 use Rattle.typing.proofs.VerdictLaws.{found_at, follows_on, follows_at}
@@ -85,39 +84,31 @@ module _ (b : Binders) (L : length b.types ≡ 128) (r : b.count < 128) where
       → stack_from ts (bits_of (with_bit b.sorts b.count s)) (bits_of (with_bit b.used b.count 0)) n ≡ stack_from ts (set (bits_of b.sorts) b.count s) (set (bits_of b.used) b.count 0) n
   bound-bits s h n ts = rw (bits_set b.sorts b.count s h, bits_set b.used b.count 0 (omega arith))
 
-  opens-is : (o : Opening) (t n : ℕ) → (binding_of o).fits ≡ true → found t (stack_of (bound_to b (binding_of o) (with_bit b.sorts b.count (binding_of o).sort) (with_bit b.used b.count 0))) ≡ opened_stack o t n (stack_of b)
-  opens-is opening.Nothing t n h = rw (add-zero b.count, bound-bits 0 (omega arith), past b.types (bits_of b.sorts) (bits_of b.used) b.count 0 0 0 b.count (omega arith))
-  opens-is (opening.Shared u) t n h = rw (bound-bits 0 (omega arith), pushed b.types (bits_of b.sorts) (bits_of b.used) u 0 0 b.count (omega arith) (omega (arith, bits_length b.sorts)) (omega (arith, bits_length b.used)))
-  opens-is (opening.Linear u) t n h = rw (bound-bits 1 (omega arith), pushed b.types (bits_of b.sorts) (bits_of b.used) u 1 0 b.count (omega arith) (omega (arith, bits_length b.sorts)) (omega (arith, bits_length b.used)))
-  opens-is opening.Misfit t n h = absurd (let z : ◌≡◌ {A = ℕ} 0 1 = cc in omega arith)
+  opens-is : (o : Opening) (t n : ℕ) → found t (stack_of (bound_to b (binding_of o) (with_bit b.sorts b.count (binding_of o).sort) (with_bit b.used b.count 0))) ≡ opened_stack (Some o) t n (stack_of b)
+  opens-is opening.Nothing t n = rw (add-zero b.count, bound-bits 0 (omega arith), past b.types (bits_of b.sorts) (bits_of b.used) b.count 0 0 0 b.count (omega arith))
+  opens-is (opening.Shared u) t n = rw (bound-bits 0 (omega arith), pushed b.types (bits_of b.sorts) (bits_of b.used) u 0 0 b.count (omega arith) (omega (arith, bits_length b.sorts)) (omega (arith, bits_length b.used)))
+  opens-is (opening.Linear u) t n = rw (bound-bits 1 (omega arith), pushed b.types (bits_of b.sorts) (bits_of b.used) u 1 0 b.count (omega arith) (omega (arith, bits_length b.sorts)) (omega (arith, bits_length b.used)))
 
-module _ (R : Types) (w : Rule) (t n : ℕ) {o : Opening} {q : Binding} (e : o ≡ opening_of w t (R t)) (g : q ≡ binding_of o) where
-  pub enter-misfit : (st : Stack) → q.fits ≡ false → refused (clash n a_form t) ≡ enter_of R w t n st
-  enter-misfit st h = by-opening o (sym e) (rw g at h)
-    where
-      by-opening : (o : Opening) → opening_of w t (R t) ≡ o → (binding_of o).fits ≡ false → refused (clash n a_form t) ≡ enter_of R w t n st
-      by-opening opening.Nothing e h = absurd (let z : ◌≡◌ {A = ℕ} 0 1 = cc in omega arith)
-      by-opening (opening.Shared u) e h = absurd (let z : ◌≡◌ {A = ℕ} 0 1 = cc in omega arith)
-      by-opening (opening.Linear u) e h = absurd (let z : ◌≡◌ {A = ℕ} 0 1 = cc in omega arith)
-      by-opening opening.Misfit e h = rw e
+module _ (R : Types) (w : Rule) (t n : ℕ) where
+  pub enter-misfit : (st : Stack) → None ≡ opening_of w t (R t) → refused (clash n a_form t) ≡ enter_of R w t n st
+  enter-misfit st e = rw (← e)
 
-  pub enter-opened : (b : Binders) → length b.types ≡ 128 → b.count < 128 → q.fits ≡ true → {ss us : List ℕ} → ss ≡ with_bit b.sorts b.count q.sort → us ≡ with_bit b.used b.count 0
+  pub enter-opened : {o : Opening} {q : Binding} → Some o ≡ opening_of w t (R t) → q ≡ binding_of o → (b : Binders) → length b.types ≡ 128 → b.count < 128
+      → {ss us : List ℕ} → ss ≡ with_bit b.sorts b.count q.sort → us ≡ with_bit b.used b.count 0
       → found t (stack_of (bound_to b q ss us)) ≡ enter_of R w t n (stack_of b)
-  enter-opened b L r h es eu = rw (es, eu, g, ← e) (opens-is b L r o t n (rw g at h))
+  enter-opened {o} e g b L r es eu = rw (es, eu, g, ← e) (opens-is b L r o t n)
 
 -- one variable at most
 pub binds_few : (o : Opening) {q : Binding} → q ≡ binding_of o → q.count ≤ 1
 binds_few opening.Nothing g = rw g (omega arith)
 binds_few (opening.Shared t) g = rw g (omega arith)
 binds_few (opening.Linear t) g = rw g (omega arith)
-binds_few opening.Misfit g = rw g (omega arith)
 
 -- .. of sort 0 or 1
 pub binds_sort : (o : Opening) {q : Binding} → q ≡ binding_of o → q.sort < 2
 binds_sort opening.Nothing g = rw g (omega arith)
 binds_sort (opening.Shared t) g = rw g (omega arith)
 binds_sort (opening.Linear t) g = rw g (omega arith)
-binds_sort opening.Misfit g = rw g (omega arith)
 
 -- ---- leaving a node with one subterm
 
@@ -215,13 +206,13 @@ closes_few w = on_cond (λ (m : ℕ). m ≤ 2) (is_projection w) 2 _ (λ _. omeg
 
 -- the second subterm, after a first one that has c binders
 module _ (R : Types) (w : Rule) (x : Held) {f : Found → Answer Found} {v : Verdict} where
-  pub follows_refused : {r : Refusal} → v ≡ verdict.Refused r → FollowsOn x.verdict (stack_of x.binders) v (halves R w v (stack_of x.binders)) f → FollowsHeld x (reached v x.binders) f
+  pub follows_refused : {r : Refusal} → v ≡ Err r → FollowsOn x.verdict (stack_of x.binders) v (halves R w v (stack_of x.binders)) f → FollowsHeld x (reached v x.binders) f
   follows_refused e F = follows_on x x.binders (subst (λ (st : Stack). FollowsOn x.verdict (stack_of x.binders) v st f) (rw e refl) F)
 
-  pub follows_halves : length x.binders.types ≡ 128 → (c : ℕ) → c + 1 < 128 → CountsOf c x → {u i j : ℕ} → v ≡ verdict.Fine u i j
+  pub follows_halves : length x.binders.types ≡ 128 → (c : ℕ) → c + 1 < 128 → CountsOf c x → {u i j : ℕ} → v ≡ fine_at u i j
       → FollowsOn x.verdict (in_scope_lem x.binders c) v (halves R w v (in_scope_lem x.binders c)) f
       → {q : Halves} {m : ℕ} {s' u' : List ℕ} → q ≡ halves_in w u (R u) → m ≡ closes_of w → s' ≡ cleared_at x.binders.sorts c → u' ≡ cleared_at x.binders.used c
-      → FollowsHeld x (reached (verdict.Fine u i j) (halved_to x.binders c q m s' u')) f
+      → FollowsHeld x (reached (fine_at u i j) (halved_to x.binders c q m s' u')) f
   follows_halves L c r n {u} e F {q} {m} {s'} {u'} g h es eu =
       follows_at x (halved_to x.binders c q m s' u') c n (rw (halves_are x.binders L c r R w u g h es eu) (rw e at F))
 
@@ -241,9 +232,9 @@ halved-kept ts c q ws us e =
 
 -- ---- leaving a node with two subterms
 
-module _ (R : Types) (w : Rule) (t n a u : ℕ) (st : Stack) {f : Fit} (e : f ≡ joined_of R w t a u) where
-  pub two-misfit : {x y : ℕ} → f ≡ how.Misfit x y → refused (clash n x y) ≡ leave_two R w t n a (found_at u st)
+module _ (R : Types) (w : Rule) (t n a u : ℕ) (st : Stack) {f : Fitting} (e : f ≡ joined_of R w t a u) where
+  pub two-misfit : {m : Misfit} → f ≡ Err m → refused (clash n m.wanted m.found) ≡ leave_two R w t n a (found_at u st)
   two-misfit h = rw (← e, h)
 
-  pub two_fine : {v : ℕ} → f ≡ how.Type v → found v (drop (closes_of w) st) ≡ leave_two R w t n a (found_at u st)
+  pub two_fine : {v : ℕ} → f ≡ Ok v → found v (drop (closes_of w) st) ≡ leave_two R w t n a (found_at u st)
   two_fine h = rw (← e, h)

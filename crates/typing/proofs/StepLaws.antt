@@ -18,13 +18,14 @@ use Rattle.records.specs.Rules.{is_linear_function, is_projection, is_fixed_poin
 use Rattle.records.specs.declared.Rule.{Rule}
 use Rattle.records.specs.declared.Rule.TheVariants as rule
 use Rattle.records.specs.contracts.Rule.{the_type}
-use Rattle.parts.specs.Table.{PartEntry, is_part, no_part, said_part, entry_of, named, shape_ty}
+use Rattle.parts.specs.Table.{PartEntry, said_part, entry_of, named, shape_ty}
 use Rattle.parts.specs.declared.Part.{Part}
 use Rattle.records.specs.declared.Sided.{Sided}
 use Rattle.typing.specs.declared.rules.Opening.TheVariants as opening
-use Rattle.typing.specs.declared.rules.Fit.TheVariants as how
+use Rattle.std.specs.declared.result.Result.TheVariants.{Ok, Err}
+use Rattle.std.specs.declared.option.Option.TheVariants.{Some, None}
 use Rattle.records.specs.TypeNumbers.{kind_no, left_no, right_no, sided_of}
-use Rattle.typing.specs.Steps.{Types, both_sides, stands_for, number_below, ty_in, constant_of, opening_of, wanted_of, used_up, enters_of, halves_in, applied_of, paired_of, joined_of, closes_of}
+use Rattle.typing.specs.Steps.{Types, misfit_of, both_sides, stands_for, number_below, ty_in, constant_of, opening_of, wanted_of, used_up, enters_of, halves_in, applied_of, paired_of, joined_of, closes_of}
 
 -- ---- by the numbers of a type record
 
@@ -57,35 +58,35 @@ module _ {q : Sided} (r : TyRec) (e : q ≡ sided_of r) where
 
   -- entering
   module _ (w : Rule) (t : ℕ) where
-    pub open-fun : w ≡ rule.Function → q.kind ≡ 3 → opening.Shared q.left ≡ opening_of w t r
+    pub open-fun : w ≡ rule.Function → q.kind ≡ 3 → Some (opening.Shared q.left) ≡ opening_of w t r
     unfolding opening_of
     open-fun h d = rw (h, kind_is, d, left_is)
 
-    pub open-fun-not : w ≡ rule.Function → ¬ (q.kind ≡ 3) → opening.Misfit ≡ opening_of w t r
+    pub open-fun-not : w ≡ rule.Function → ¬ (q.kind ≡ 3) → None ≡ opening_of w t r
     unfolding opening_of
     open-fun-not h d = rw (h, kind_is, ne_eqb q.kind 3 d)
 
-    pub open-lfun : w ≡ rule.LinearFunction → q.kind ≡ 4 → opening.Linear q.left ≡ opening_of w t r
+    pub open-lfun : w ≡ rule.LinearFunction → q.kind ≡ 4 → Some (opening.Linear q.left) ≡ opening_of w t r
     unfolding opening_of
     open-lfun h d = rw (h, kind_is, d, left_is)
 
-    pub open-lfun-not : w ≡ rule.LinearFunction → ¬ (q.kind ≡ 4) → opening.Misfit ≡ opening_of w t r
+    pub open-lfun-not : w ≡ rule.LinearFunction → ¬ (q.kind ≡ 4) → None ≡ opening_of w t r
     unfolding opening_of
     open-lfun-not h d = rw (h, kind_is, ne_eqb q.kind 4 d)
 
-    pub open-pair : w ≡ rule.Pair → q.kind ≡ 2 → opening.Nothing ≡ opening_of w t r
+    pub open-pair : w ≡ rule.Pair → q.kind ≡ 2 → Some opening.Nothing ≡ opening_of w t r
     unfolding opening_of
     open-pair h d = rw (h, kind_is, d)
 
-    pub open-pair-not : w ≡ rule.Pair → ¬ (q.kind ≡ 2) → opening.Misfit ≡ opening_of w t r
+    pub open-pair-not : w ≡ rule.Pair → ¬ (q.kind ≡ 2) → None ≡ opening_of w t r
     unfolding opening_of
     open-pair-not h d = rw (h, kind_is, ne_eqb q.kind 2 d)
 
-    pub open-fix : w ≡ rule.FixedPoint → q.kind ≤ 2 → opening.Shared t ≡ opening_of w t r
+    pub open-fix : w ≡ rule.FixedPoint → q.kind ≤ 2 → Some (opening.Shared t) ≡ opening_of w t r
     unfolding opening_of
     open-fix h d = rw (h, kind_is, le-leb q.kind 2 d)
 
-    pub open-fix-not : w ≡ rule.FixedPoint → 2 < q.kind → opening.Misfit ≡ opening_of w t r
+    pub open-fix-not : w ≡ rule.FixedPoint → 2 < q.kind → None ≡ opening_of w t r
     unfolding opening_of
     open-fix-not h d = rw (h, kind_is, lt-leb q.kind 2 d)
 
@@ -109,29 +110,29 @@ module _ {q : Sided} (r : TyRec) (e : q ≡ sided_of r) where
 
   -- an application
   module _ (k f a : ℕ) where
-    pub applied-kind : ¬ (q.kind ≡ k) → how.Misfit a_form f ≡ applied_of r k f a
+    pub applied-kind : ¬ (q.kind ≡ k) → Err (misfit_of a_form f) ≡ applied_of r k f a
     unfolding applied_of
     applied-kind d = rw (kind_is, ne_eqb q.kind k d)
 
-    pub applied-left : {x : ℕ} → x ≡ q.left → q.kind ≡ k → ¬ (a ≡ q.left) → how.Misfit x a ≡ applied_of r k f a
+    pub applied-left : {x : ℕ} → x ≡ q.left → q.kind ≡ k → ¬ (a ≡ q.left) → Err (misfit_of x a) ≡ applied_of r k f a
     unfolding applied_of
     applied-left e h d = rw (e, kind_is, eq-eqb q.kind k h, left_is, ne_eqb a q.left d)
 
-    pub applied-fits : q.kind ≡ k → a ≡ q.left → how.Type q.right ≡ applied_of r k f a
+    pub applied-fits : q.kind ≡ k → a ≡ q.left → Ok q.right ≡ applied_of r k f a
     unfolding applied_of
     applied-fits h d = rw (kind_is, eq-eqb q.kind k h, left_is, eq-eqb a q.left d, right_is)
 
   -- a pair
   module _ (t a b : ℕ) where
-    pub paired-left : {x : ℕ} → x ≡ q.left → ¬ (a ≡ q.left) → how.Misfit x a ≡ paired_of r t a b
+    pub paired-left : {x : ℕ} → x ≡ q.left → ¬ (a ≡ q.left) → Err (misfit_of x a) ≡ paired_of r t a b
     unfolding paired_of
     paired-left e d = rw (e, left_is, ne_eqb a q.left d)
 
-    pub paired-right : {x : ℕ} → x ≡ q.right → a ≡ q.left → ¬ (b ≡ q.right) → how.Misfit x b ≡ paired_of r t a b
+    pub paired-right : {x : ℕ} → x ≡ q.right → a ≡ q.left → ¬ (b ≡ q.right) → Err (misfit_of x b) ≡ paired_of r t a b
     unfolding paired_of
     paired-right e h d = rw (e, left_is, eq-eqb a q.left h, right_is, ne_eqb b q.right d)
 
-    pub paired-fits : a ≡ q.left → b ≡ q.right → how.Type t ≡ paired_of r t a b
+    pub paired-fits : a ≡ q.left → b ≡ q.right → Ok t ≡ paired_of r t a b
     unfolding paired_of
     paired-fits h d = rw (left_is, eq-eqb a q.left h, right_is, eq-eqb b q.right d)
 
@@ -144,7 +145,7 @@ unwritten = 0 ∷ 1 ∷ 3 ∷ 5 ∷ 7 ∷ 9 ∷ 10 ∷ []
 abbrev unjoined : List ℕ
 unjoined = 0 ∷ 1 ∷ 2 ∷ 4 ∷ 7 ∷ 8 ∷ 9 ∷ 10 ∷ []
 
-pub open_none : (w : Rule) (t : ℕ) (r : TyRec) → OneOf unwritten (tag_of the_type w) → opening.Nothing ≡ opening_of w t r
+pub open_none : (w : Rule) (t : ℕ) (r : TyRec) → OneOf unwritten (tag_of the_type w) → Some opening.Nothing ≡ opening_of w t r
 unfolding opening_of
 open_none rule.Variable t r o = refl
 open_none rule.LinearVariable t r o = refl
@@ -183,7 +184,7 @@ module _ (R : Types) (w : Rule) (t a b : ℕ) where
   unfolding joined_of
   join_pair h = rw h
 
-pub join_last : (R : Types) (w : Rule) (t a b : ℕ) → OneOf unjoined (tag_of the_type w) → how.Type b ≡ joined_of R w t a b
+pub join_last : (R : Types) (w : Rule) (t a b : ℕ) → OneOf unjoined (tag_of the_type w) → Ok b ≡ joined_of R w t a b
 unfolding joined_of
 join_last R rule.Variable t a b o = refl
 join_last R rule.LinearVariable t a b o = refl
@@ -236,20 +237,20 @@ halves_one w t r d = rw d
 
 -- ---- constants
 
-looked_none : (x : PartEntry) (b : Bool) → no_part ≡ cond b (is_part x) no_part → b ≡ false
+looked_none : (x : PartEntry) (b : Bool) → None ≡ cond b (Some x) None → b ≡ false
 looked_none x true e = absurd (let z : ◌≡◌ {A = ℕ} 0 1 = cc in omega arith)
 looked_none x false e = refl
 
-looked_is : (x y : PartEntry) (b : Bool) → is_part y ≡ cond b (is_part x) no_part → (b ≡ true) × (y ≡ x)
+looked_is : (x y : PartEntry) (b : Bool) → Some y ≡ cond b (Some x) None → (b ≡ true) × (y ≡ x)
 looked_is x y true e = (refl, cc)
 looked_is x y false e = absurd (let z : ◌≡◌ {A = ℕ} 0 1 = cc in omega arith)
 
 module _ (p : ℕ) where
-  unknown_part : no_part ≡ named p → ltb p (length parts) ≡ false
+  unknown_part : None ≡ named p → ltb p (length parts) ≡ false
   unfolding named
   unknown_part e = looked_none (entry_of p) (ltb p (length parts)) e
 
-  module _ (q : Part) (e : is_part (said_part q) ≡ named p) where
+  module _ (q : Part) (e : Some (said_part q) ≡ named p) where
     known-part : (ltb p (length parts) ≡ true) × (said_part q ≡ entry_of p)
     unfolding named
     known-part = looked_is (entry_of p) (said_part q) (ltb p (length parts)) e
@@ -262,11 +263,11 @@ module _ (p : ℕ) where
     type-of second = ap (λ (x : PartEntry). x.in_second) known-part.1
 
 module _ (R : Types) (l : ℕ) (E : Edition) (p t n : ℕ) (st : Stack) where
-  pub constant-unknown : no_part ≡ named p → refuse 15 n ≡ constant_of R l E p t n st
+  pub constant-unknown : None ≡ named p → refuse 15 n ≡ constant_of R l E p t n st
   unfolding constant_of
   constant-unknown e = rw (unknown_part p e)
 
-  module _ (q : Part) (e : is_part (said_part q) ≡ named p) where
+  module _ (q : Part) (e : Some (said_part q) ≡ named p) where
     pub constant-misfit : {x : ℕ} → x ≡ number_below (stands_for R (ty_in (said_part q) E)) l 0 → stands_for R (ty_in (said_part q) E) t ≡ false → refused (clash n x t) ≡ constant_of R l E p t n st
     unfolding constant_of
     constant-misfit h d = rw (h, (known-part p q e).0, ← type-of p q e E, d)

@@ -18,8 +18,8 @@ use Rattle.records.specs.declared.Node.{Node}
 use Rattle.records.proofs.Laws.{stands_record, stands-node, node-next}
 use Rattle.binders.specs.Stacks.{stack_of}
 use Rattle.binders.proofs.Laws.{length_of}
-use Rattle.typing.specs.declared.Verdict.{Verdict}
-use Rattle.typing.specs.declared.Verdict.TheVariants as verdict
+use Rattle.std.specs.declared.result.Result.TheVariants.{Ok, Err}
+use Rattle.typing.specs.Verdicts.{Verdict, fine_at}
 use Rattle.answers.specs.declared.Refusal.{Refusal}
 use Rattle.typing.specs.Steps.{leaf_of, enter_of, leave_one, between_of, leave_two}
 use Rattle.typing.specs.Verdicts.{Held, said, EndsAt, HeldSays, FollowsHeld}
@@ -52,8 +52,8 @@ module _ {s : List ℕ} {l : ℕ} {E : Edition} {at node : ℕ} {Θ : Table} {e 
   as_many F x X {m} l = by-verdict x.verdict refl
     where
       by-verdict : (v : Verdict) → x.verdict ≡ v → CountsIn m v x.binders.count
-      by-verdict (verdict.Fine t i j) q = omega (arith, (fits_kept F (found_at t (stack_of x.binders)) (sym X.answer ∙ said_fine x q)).count, length_of x.binders)
-      by-verdict (verdict.Refused r) q = tt
+      by-verdict (Ok g) q = omega (arith, (fits_kept F (found_at g.ty (stack_of x.binders)) (sym X.answer ∙ said_fine x q)).count, length_of x.binders)
+      by-verdict (Err r) q = tt
 
 -- ---- at a node: what is known, place by place of the code
 
@@ -77,7 +77,7 @@ module _ (s : List ℕ) (l : ℕ) (E : Edition) (at node : ℕ) (st : Stack) (Θ
     pub t : ℕ
     pub start : ℕ
     pub count : ℕ
-    pub fine : inside.i.verdict ≡ verdict.Fine t start count
+    pub fine : inside.i.verdict ≡ fine_at t start count
 
   -- the first subterm has been walked
   pub record First : Type 0 where
@@ -99,7 +99,7 @@ module _ (s : List ℕ) (l : ℕ) (E : Edition) (at node : ℕ) (st : Stack) (Θ
     pub u : ℕ
     pub start : ℕ
     pub count : ℕ
-    pub fine : middle.m.verdict ≡ verdict.Fine u start count
+    pub fine : middle.m.verdict ≡ fine_at u start count
 
   -- the verdict on the whole term
   abbrev pub Done : Held → Type 0
@@ -139,7 +139,7 @@ module _ {s : List ℕ} {l : ℕ} {E : Edition} {at node : ℕ} {st : Stack} {Θ
     steps = let F = h.place.fits in walk_steps (rec_in s) E Θ F.table F.types at node st F.numbers e F.ranged some_is ∙ rw entered refl
 
     -- refused on entering
-    pub turn-refused : {r : Refusal} → h.i.verdict ≡ verdict.Refused r → Done s l E at node st Θ e h.i
+    pub turn-refused : {r : Refusal} → h.i.verdict ≡ Err r → Done s l E at node st Θ e h.i
     turn-refused v = record { answer = stops h.i _ v refl ∙ sym steps; ends = refused_ends h.i _ _ v }
 
   module _ (h : InsideFine s l E at node st Θ e) where
@@ -203,7 +203,7 @@ module _ {s : List ℕ} {l : ℕ} {E : Edition} {at node : ℕ} {st : Stack} {Θ
         ∙ sym (bind_assoc (said h.first.x) (between_of (rec_in s) (node_of e at).rule node) second) ∙ ap (λ (z : Answer Found). z >>= second) (sym middle-said)
 
     -- refused in the first subterm, or between the two
-    pub turn-halfway : {r : Refusal} → h.m.verdict ≡ verdict.Refused r → Done s l E at node st Θ e h.m
+    pub turn-halfway : {r : Refusal} → h.m.verdict ≡ Err r → Done s l E at node st Θ e h.m
     turn-halfway v = record { answer = stops h.m second v refl ∙ sym rest-two; ends = refused_ends h.m _ _ v }
 
   module _ (h : Second s l E at node st Θ e) where

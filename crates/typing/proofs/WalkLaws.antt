@@ -14,9 +14,9 @@ use Rattle.calculus.specs.Walk.{shared, linear, Stack, product, sharable_arrow, 
 use Rattle.records.specs.Heads.{node_of}
 use Rattle.records.specs.declared.Rule.TheVariants as rule
 use Rattle.sheet_theorems.specs.Numbers.{Numbers}
-use Rattle.typing.specs.declared.rules.Fit.TheVariants as how
+use Rattle.std.specs.declared.result.Result.TheVariants.{Ok, Err}
 use Rattle.records.specs.TypeNumbers.{kind_no}
-use Rattle.typing.specs.Steps.{Types, constant_of, leaf_of, opening_of, opened_stack, enter_of, wanted_of, used_up, leave_one, between_of, applied_of, paired_of, joined_of, closes_of, fitted, leave_two, enters_of}
+use Rattle.typing.specs.Steps.{Types, misfit_of, constant_of, leaf_of, opening_of, opened_stack, enter_of, wanted_of, used_up, leave_one, between_of, applied_of, paired_of, joined_of, closes_of, fitted, leave_two, enters_of}
 use Rattle.typing.proofs.Ranges.{sharable-is, stands-for, number_is, kept}
 
 -- ---- answers
@@ -69,7 +69,7 @@ pop-two [] = refl
 pop-two (b ∷ []) = refl
 pop-two (b ∷ d ∷ st) = refl
 
-fit-test : (b : Bool) (t x y n : ℕ) (st : Stack) → fitted (cond b (how.Type t) (how.Misfit x y)) 0 n st ≡ (fit b n x y >>= λ _. found t st)
+fit-test : (b : Bool) (t x y n : ℕ) (st : Stack) → fitted (cond b (Ok t) (Err (misfit_of x y))) 0 n st ≡ (fit b n x y >>= λ _. found t st)
 fit-test true t x y n st = refl
 fit-test false t x y n st = refl
 
@@ -87,7 +87,7 @@ lapp_end (rec02 a b) f u n st = refl
 lapp_end (rec03 a b) f u n st = refl
 lapp_end (rec04 a b) f u n st = fit-test (eqb u a) b a u n st
 
-pair_tests : (x y : Bool) (t i a j b n : ℕ) (st : Stack) → fitted (cond x (cond y (how.Type t) (how.Misfit j b)) (how.Misfit i a)) 0 n st ≡ (fit x n i a >>= λ _. fit y n j b >>= λ _. found t st)
+pair_tests : (x y : Bool) (t i a j b n : ℕ) (st : Stack) → fitted (cond x (cond y (Ok t) (Err (misfit_of j b))) (Err (misfit_of i a))) 0 n st ≡ (fit x n i a >>= λ _. fit y n j b >>= λ _. found t st)
 pair_tests true y t i a j b n st = fit-test y t j b n st
 pair_tests false y t i a j b n st = refl
 

@@ -1,6 +1,6 @@
 -- The typing walk in the steps of the code, over the sheet's own type records: leaves, entering, between two subterms, leaving.
 -- Assumes nothing.
-use Rattle.std.specs.Prelude.{ℕ, zero, suc, Bool, true, false, ◌&&◌, cond, ◌∷◌, leb, ltb, eqb, length, drop}
+use Rattle.std.specs.Prelude.{ℕ, zero, suc, Bool, true, false, ◌&&◌, cond, Option, Some, None, Result, Ok, Err, ◌∷◌, leb, ltb, eqb, length, drop}
 use Rattle.calculus.specs.Answer.{Answer, refused, ◌>>=◌, clash, a_form, need, fit}
 use Rattle.calculus.specs.Types.{Ty, bit, prod, arrow, lolli, TyRec}
 use Rattle.calculus.specs.Terms.{Edition, first, second, parts, part_at}
@@ -14,8 +14,7 @@ use Rattle.typing.specs.declared.rules.Opening.TheVariants as opening
 use Rattle.typing.specs.declared.rules.Binding.{Binding}
 use Rattle.parts.specs.Table.{PartEntry}
 use Rattle.typing.specs.declared.rules.Halves.{Halves}
-use Rattle.typing.specs.declared.rules.Fit.{Fit}
-use Rattle.typing.specs.declared.rules.Fit.TheVariants as how
+use Rattle.typing.specs.declared.rules.Misfit.{Misfit}
 
 -- the records of the types, by number
 abbrev pub Types : Type 0
@@ -68,34 +67,33 @@ leaf_of R l E rule.Naming x y n st = constant_of R l E x y n st
 -- ---- entering
 
 -- an opening where a record has kind k
-abbrev pub where_kind : ℕ → TyRec → Opening → Opening
-where_kind k q o = cond (eqb (kind_no q) k) o opening.Misfit
+abbrev pub where_kind : ℕ → TyRec → Opening → Option Opening
+where_kind k q o = cond (eqb (kind_no q) k) (Some o) None
 
-unfoldable pub opening_of : Rule → ℕ → TyRec → Opening
-opening_of rule.Variable t q = opening.Nothing
-opening_of rule.LinearVariable t q = opening.Nothing
+unfoldable pub opening_of : Rule → ℕ → TyRec → Option Opening
+opening_of rule.Variable t q = Some opening.Nothing
+opening_of rule.LinearVariable t q = Some opening.Nothing
 opening_of rule.Function t q = where_kind 3 q (opening.Shared (left_no q))
-opening_of rule.Application t q = opening.Nothing
+opening_of rule.Application t q = Some opening.Nothing
 opening_of rule.LinearFunction t q = where_kind 4 q (opening.Linear (left_no q))
-opening_of rule.LinearApplication t q = opening.Nothing
+opening_of rule.LinearApplication t q = Some opening.Nothing
 opening_of rule.Pair t q = where_kind 2 q opening.Nothing
-opening_of rule.Projection t q = opening.Nothing
-opening_of rule.FixedPoint t q = cond (leb (kind_no q) 2) (opening.Shared t) opening.Misfit
-opening_of rule.Constant t q = opening.Nothing
-opening_of rule.Naming t q = opening.Nothing
+opening_of rule.Projection t q = Some opening.Nothing
+opening_of rule.FixedPoint t q = cond (leb (kind_no q) 2) (Some (opening.Shared t)) None
+opening_of rule.Constant t q = Some opening.Nothing
+opening_of rule.Naming t q = Some opening.Nothing
 
 -- an opening as numbers
 abbrev pub binding_of : Opening → Binding
-binding_of opening.Nothing = record { fits = true; count = 0; ty = 0; sort = 0 }
-binding_of (opening.Shared t) = record { fits = true; count = 1; ty = t; sort = 0 }
-binding_of (opening.Linear t) = record { fits = true; count = 1; ty = t; sort = 1 }
-binding_of opening.Misfit = record { fits = false; count = 0; ty = 0; sort = 0 }
+binding_of opening.Nothing = record { count = 0; ty = 0; sort = 0 }
+binding_of (opening.Shared t) = record { count = 1; ty = t; sort = 0 }
+binding_of (opening.Linear t) = record { count = 1; ty = t; sort = 1 }
 
-abbrev pub opened_stack : Opening → ℕ → ℕ → Stack → Answer Found
-opened_stack opening.Nothing t n st = found t st
-opened_stack (opening.Shared x) t n st = found t (shared x ∷ st)
-opened_stack (opening.Linear x) t n st = found t (linear x false ∷ st)
-opened_stack opening.Misfit t n st = refused (clash n a_form t)
+abbrev pub opened_stack : Option Opening → ℕ → ℕ → Stack → Answer Found
+opened_stack (Some opening.Nothing) t n st = found t st
+opened_stack (Some (opening.Shared x)) t n st = found t (shared x ∷ st)
+opened_stack (Some (opening.Linear x)) t n st = found t (linear x false ∷ st)
+opened_stack None t n st = refused (clash n a_form t)
 
 abbrev pub enter_of : Types → Rule → ℕ → ℕ → Stack → Answer Found
 enter_of R u t n st = opened_stack (opening_of u t (R t)) t n st
@@ -137,35 +135,42 @@ between_of R u n x = do
 
 -- ---- leaving a node with two subterms
 
+-- the type of a node, or two types that do not fit
+abbrev pub Fitting : Type 0
+Fitting = Result ℕ Misfit
+
+abbrev pub misfit_of : ℕ → ℕ → Misfit
+misfit_of wanted found = record { wanted = wanted; found = found }
+
 -- a function of type f, whose record is q, an arrow of kind k, at an argument of type a
-unfoldable pub applied_of : TyRec → ℕ → ℕ → ℕ → Fit
-applied_of q k f a = cond (eqb (kind_no q) k) (cond (eqb a (left_no q)) (how.Type (right_no q)) (how.Misfit (left_no q) a)) (how.Misfit a_form f)
+unfoldable pub applied_of : TyRec → ℕ → ℕ → ℕ → Fitting
+applied_of q k f a = cond (eqb (kind_no q) k) (cond (eqb a (left_no q)) (Ok (right_no q)) (Err (misfit_of (left_no q) a))) (Err (misfit_of a_form f))
 
 -- the first half that differs is named
-unfoldable pub paired_of : TyRec → ℕ → ℕ → ℕ → Fit
-paired_of q t a b = cond (eqb a (left_no q)) (cond (eqb b (right_no q)) (how.Type t) (how.Misfit (right_no q) b)) (how.Misfit (left_no q) a)
+unfoldable pub paired_of : TyRec → ℕ → ℕ → ℕ → Fitting
+paired_of q t a b = cond (eqb a (left_no q)) (cond (eqb b (right_no q)) (Ok t) (Err (misfit_of (right_no q) b))) (Err (misfit_of (left_no q) a))
 
 -- the types a and b of the subterms to the type of the node
-unfoldable pub joined_of : Types → Rule → ℕ → ℕ → ℕ → Fit
-joined_of R rule.Variable t a b = how.Type b
-joined_of R rule.LinearVariable t a b = how.Type b
-joined_of R rule.Function t a b = how.Type b
+unfoldable pub joined_of : Types → Rule → ℕ → ℕ → ℕ → Fitting
+joined_of R rule.Variable t a b = Ok b
+joined_of R rule.LinearVariable t a b = Ok b
+joined_of R rule.Function t a b = Ok b
 joined_of R rule.Application t a b = applied_of (R a) 3 a b
-joined_of R rule.LinearFunction t a b = how.Type b
+joined_of R rule.LinearFunction t a b = Ok b
 joined_of R rule.LinearApplication t a b = applied_of (R a) 4 a b
 joined_of R rule.Pair t a b = paired_of (R t) t a b
-joined_of R rule.Projection t a b = how.Type b
-joined_of R rule.FixedPoint t a b = how.Type b
-joined_of R rule.Constant t a b = how.Type b
-joined_of R rule.Naming t a b = how.Type b
+joined_of R rule.Projection t a b = Ok b
+joined_of R rule.FixedPoint t a b = Ok b
+joined_of R rule.Constant t a b = Ok b
+joined_of R rule.Naming t a b = Ok b
 
 -- the binders that go out of scope
 unfoldable pub closes_of : Rule → ℕ
 closes_of u = cond (is_projection u) 2 (cond (is_naming u) 1 0)
 
-abbrev pub fitted : Fit → ℕ → ℕ → Stack → Answer Found
-fitted (how.Type t) closes n st = found t (drop closes st)
-fitted (how.Misfit wanted found) closes n st = refused (clash n wanted found)
+abbrev pub fitted : Fitting → ℕ → ℕ → Stack → Answer Found
+fitted (Ok t) closes n st = found t (drop closes st)
+fitted (Err m) closes n st = refused (clash n m.wanted m.found)
 
 abbrev pub leave_two : Types → Rule → ℕ → ℕ → ℕ → Found → Answer Found
 leave_two R u t n a y = fitted (joined_of R u t a y.type) (closes_of u) n y.stack

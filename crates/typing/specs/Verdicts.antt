@@ -1,21 +1,27 @@
 -- What the walk's verdict says: a type number with the binders, or a refusal; and where a term ends. Assumes nothing.
-use Rattle.std.specs.Prelude.{ℕ, ◌+◌, ◌≡◌, List}
+use Rattle.std.specs.Prelude.{ℕ, ◌+◌, ◌≡◌, Result, Ok, Err, List}
 use Rattle.calculus.specs.Answer.{Answer, refused, ◌>>=◌}
 use Rattle.calculus.specs.Walk.{Stack, Found, found}
-use Rattle.answers.specs.Refusals.{said_why}
+use Rattle.answers.specs.declared.Reason.{Reason}
+use Rattle.answers.specs.declared.Refusal.{Refusal}
+use Rattle.answers.specs.Refusals.{refusal_at, said_why}
 use Rattle.records.specs.declared.Rule.{Rule}
-use Rattle.binders.specs.Stacks.{stack_of}
+use Rattle.binders.specs.Stacks.{Use, stack_of}
 use Rattle.binders.specs.declared.Binders.{Binders}
-use Rattle.binders.specs.declared.Use.{Use}
-use Rattle.binders.specs.declared.Use.TheVariants as use·
-use Rattle.typing.specs.declared.Verdict.{Verdict}
-use Rattle.typing.specs.declared.Verdict.TheVariants as verdict
+use Rattle.typing.specs.declared.Fine.{Fine}
 use Rattle.typing.specs.declared.Checked.{Checked}
 use Rattle.typing.specs.Steps.{Types, halves_of}
 
+abbrev pub Verdict : Type 0
+Verdict = Result Fine Refusal
+
+-- a type number, the offset past its term, and the nodes up to there
+abbrev pub fine_at : ℕ → ℕ → ℕ → Verdict
+fine_at t next count = Ok (record { ty = t; next = next; count = count })
+
 abbrev pub said_verdict : Verdict → Stack → Answer Found
-said_verdict (verdict.Fine t next count) st = found t st
-said_verdict (verdict.Refused r) st = refused (said_why r)
+said_verdict (Ok f) st = found f.ty st
+said_verdict (Err r) st = refused (said_why r)
 
 -- a verdict, and the binders with their marks after it
 pub record Held : Type 0 where
@@ -40,12 +46,9 @@ at_count b n = record { types = b.types; sorts = b.sorts; used = b.used; count =
 unfoldable pub said : Held → Answer Found
 said c = said_verdict c.verdict (stack_of c.binders)
 
-abbrev pub refused_of : ℕ → ℕ → Verdict
-refused_of number place = verdict.Refused (record { number = number; place = place; wanted = 0; found = 0 })
-
 -- 12, with the type number wanted and the one found
-abbrev pub clash_of : ℕ → ℕ → ℕ → Verdict
-clash_of node wanted found = verdict.Refused (record { number = 12; place = node; wanted = wanted; found = found })
+abbrev pub clash_of : ℕ → ℕ → ℕ → Refusal
+clash_of node wanted found = record { reason = Reason.Misfit; place = node; wanted = wanted; found = found }
 
 -- a verdict with its marks
 abbrev pub checked : Verdict → List ℕ → Checked
@@ -53,18 +56,18 @@ checked v used = record { verdict = v; used = used }
 
 -- the verdict on a variable, node n, that ends at `next`
 abbrev pub settled_of : Use → ℕ → ℕ → Verdict
-settled_of (use·.Type t) next n = verdict.Fine t next (n + 1)
-settled_of (use·.Refused number) next n = refused_of number n
+settled_of (Ok t) next n = fine_at t next (n + 1)
+settled_of (Err why) next n = Err (refusal_at why n)
 
 -- the binders on entering a second subterm, by the verdict on the first
 abbrev pub halves : Types → Rule → Verdict → Stack → Stack
-halves R u (verdict.Fine t next count) st = halves_of R u t st
-halves R u (verdict.Refused r) st = st
+halves R u (Ok f) st = halves_of R u f.ty st
+halves R u (Err r) st = st
 
 -- a verdict that is fine has the offset past the term, and the nodes up to there
 abbrev pub EndsAt : Verdict → ℕ → ℕ → Type 0
-EndsAt (verdict.Fine t x y) next count = (x ≡ next) × (y ≡ count)
-EndsAt (verdict.Refused r) next count = Unit {0}
+EndsAt (Ok f) next count = (f.next ≡ next) × (f.count ≡ count)
+EndsAt (Err r) next count = Unit {0}
 
 -- a verdict with its binders, and where its term ends
 pub record HeldSays (c : Held) (a : Answer Found) (next count : ℕ) : Type 0 where

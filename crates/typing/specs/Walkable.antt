@@ -1,5 +1,5 @@
 -- What the walk may take for granted at an offset of a sheet that has been read. Assumes nothing.
-use Rattle.std.specs.Prelude.{ℕ, ◌+◌, ◌*◌, ◌≤◌, ◌<◌, ◌≡◌, List, length, get_or}
+use Rattle.std.specs.Prelude.{ℕ, ◌+◌, ◌*◌, ◌≤◌, ◌<◌, ◌≡◌, Ok, Err, List, length, get_or}
 use Rattle.calculus.specs.Types.{Table, rec_at}
 use Rattle.calculus.specs.Terms.{Edition, Term, nodes}
 use Rattle.calculus.specs.Write.{term_bytes}
@@ -8,11 +8,9 @@ use Rattle.calculus.specs.Walk.{Stack, walk}
 use Rattle.records.specs.Forms.{rec_in}
 use Rattle.sheet_theorems.specs.Numbers.{Numbers}
 use Rattle.typing.specs.declared.Checked.{Checked}
-use Rattle.typing.specs.declared.Verdict.{Verdict}
-use Rattle.typing.specs.declared.Verdict.TheVariants as verdict
 use Rattle.binders.specs.declared.Binders.{Binders}
 use Rattle.binders.specs.Stacks.{stack_of, slot_of}
-use Rattle.typing.specs.Verdicts.{Held, held, HeldSays}
+use Rattle.typing.specs.Verdicts.{Verdict, Held, held, HeldSays}
 
 -- a term stands at an offset, of a sheet that is its own table of l types; a level of the term binds two variables at most
 pub record Walkable (s : List ℕ) (l : ℕ) (E : Edition) (at node : ℕ) (Θ : Table) (e : Term) (st : Stack) : Type 0 where
@@ -37,8 +35,8 @@ Walked s l E at node b c = (Θ : Table) (e : Term) → Walkable s l E at node Θ
 
 -- a verdict that is fine has so many binders
 abbrev pub CountsIn : ℕ → Verdict → ℕ → Type 0
-CountsIn m (verdict.Fine t x y) count = count ≡ m
-CountsIn m (verdict.Refused r) count = Unit {0}
+CountsIn m (Ok f) count = count ≡ m
+CountsIn m (Err r) count = Unit {0}
 
 abbrev pub CountsOf : ℕ → Held → Type 0
 CountsOf m c = CountsIn m c.verdict c.binders.count

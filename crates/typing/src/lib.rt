@@ -8,58 +8,46 @@ ghost use Rattle.records.specs.Editions.{edition_by};
 ghost use Rattle.binders.specs.Stacks.{bits_of, binder_of, stack_of};
 ghost use Rattle.binders.specs.declared.Binders.{Binders};
 ghost use Rattle.typing.specs.Steps.{constant_of, leaf_of, used_up, leave_one, between_of, closes_of, leave_two};
-ghost use Rattle.typing.specs.Verdicts.{said_verdict, refused_of, clash_of, checked, held, at_count, settled_of, halves, EndsAt, HeldSays, FollowsOn, FollowsHeld};
+ghost use Rattle.typing.specs.Verdicts.{said_verdict, clash_of, checked, held, at_count, settled_of, halves, EndsAt, HeldSays, FollowsOn, FollowsHeld};
 ghost use Rattle.typing.specs.Answers.{said_typing, check_of, TermAt};
 ghost use Rattle.typing.specs.Walkable.{Placed, Walked, CountsOf, Names};
 
-use answers::Refusal;
-use binders::{Binders, Use};
-use parts::Named;
+use answers::{Reason, Refusal};
+use binders::Binders;
 use records::{Node, Rule};
-use rules::Fit;
 
 mod rules;
 
-// A term's type number, the offset past it and the nodes up to there; or a refusal.
-#[derive(Clone, Copy)]
-pub enum Verdict {
-    Fine { ty: u8, next: usize, count: usize },
-    Refused(Refusal),
+// A term's type number, the offset past it and the nodes up to there.
+#[derive(Clone, Copy, Debug, PartialEq, Eq)]
+pub struct Fine {
+    pub ty: u8,
+    pub next: usize,
+    pub count: usize,
 }
 
-// A verdict, and the marks of use after it. The binders themselves are as before, so that no level hands them back.
-#[derive(Clone, Copy)]
+// A verdict, and the marks of use after it, also after a refusal: the contracts say them of every verdict. The binders themselves are as
+// before, so that no level hands them back.
+#[derive(Clone, Copy, Debug, PartialEq, Eq)]
 pub struct Checked {
-    pub verdict: Verdict,
+    pub verdict: Result<Fine, Refusal>,
     pub used: [u64; 2],
 }
 
-// Refused at a place.
-fn refused(number: u8, place: usize) -> Verdict
-    ensures { result ≡ refused_of number place }
-{
-    Verdict::Refused(Refusal {
-        number,
-        place,
-        wanted: 0,
-        found: 0,
-    })
-}
-
 // 12 at a node, with the type number wanted and the one found.
-fn clash(node: usize, wanted: u16, found: u8) -> Verdict
+fn clash(node: usize, wanted: u16, found: u8) -> Refusal
     ensures { result ≡ clash_of node wanted found }
 {
-    Verdict::Refused(Refusal {
-        number: 12,
+    Refusal {
+        reason: Reason::Misfit,
         place: node,
         wanted,
         found,
-    })
+    }
 }
 
 // A verdict, with the marks as they are after it.
-fn answered(v: Verdict, used: [u64; 2]) -> Checked
+fn answered(v: Result<Fine, Refusal>, used: [u64; 2]) -> Checked
     ensures { result ≡ checked v used }
 {
     Checked { verdict: v, used }
@@ -68,39 +56,37 @@ fn answered(v: Verdict, used: [u64; 2]) -> Checked
 // ---- leaves
 
 // The verdict on a variable, node `node`.
-fn settled(u: Use, next: usize, node: usize) -> Verdict
+fn settled(u: Result<u8, Reason>, next: usize, node: usize) -> Result<Fine, Refusal>
     requires { node < 2048 }
     ensures { result ≡ settled_of u next node }
 {
     match u {
-        Use::Type(ty) => Verdict::Fine {
+        Ok(ty) => Ok(Fine {
             ty,
             next,
             count: node + 1,
-        },
-        Use::Refused(k) => refused(k, node),
+        }),
+        Err(why) => Err(why.at(node)),
     }
 }
 
 // A constant: 15, then 12.
-fn constant(s: &[u8], n: Node, node: usize, types: usize, second: bool) -> Verdict
+fn constant(s: &[u8], n: Node, node: usize, types: usize, second: bool) -> Result<Fine, Refusal>
     requires { (node < 2048) × (types ≤ 256) }
     ensures { ((st : Stack) → said_verdict result st ≡ constant_of (rec_in s.now) types (edition_by second) n.first n.second node st) × EndsAt result n.next (node + 1) }
 {
     let t = n.second;
-    match parts::part_at(n.first) {
-        Named::Unknown => refused(15, node),
-        Named::Part(part) => {
-            if rules::is_type_of(s, t, part, second) {
-                return Verdict::Fine {
-                    ty: t,
-                    next: n.next,
-                    count: node + 1,
-                };
-            }
-            clash(node, rules::type_number(s, types, part, second), t)
-        }
+    let Some(part) = parts::part_at(n.first) else {
+        return Err(Reason::UnknownPart.at(node));
+    };
+    if rules::is_type_of(s, t, part, second) {
+        return Ok(Fine {
+            ty: t,
+            next: n.next,
+            count: node + 1,
+        });
     }
+    Err(clash(node, rules::type_number(s, types, part, second), t))
 }
 
 // A node without subterms, under `scope` binders with these sorts and marks; `ty` is the type of the one that its number names. A linear
@@ -119,7 +105,7 @@ fn leaf(
     requires { (scope ≤ 128) × (node < 2048) × (types ≤ 256) }
     ensures { (b : Binders) → Names b n.first scope ty sorts marks → HeldSays (held b result) (leaf_of (rec_in s.now) types (edition_by second) n.rule n.first n.second node (stack_of b)) n.next (node + 1) }
 {
-    let i = records::wide(n.first);
+    let i = usize::from(n.first);
     let k = binders::slot(scope, i);
     let sort = binders::bit(sorts, k);
     let rule = n.rule;
@@ -153,25 +139,24 @@ fn used_up(rule: Rule, sort: u8, mark: u8) -> bool
 }
 
 // 14, then 12.
-fn after_one(s: &[u8], n: Node, node: usize, v: Verdict, used: bool) -> Verdict
+fn after_one(
+    s: &[u8],
+    n: Node,
+    node: usize,
+    v: Result<Fine, Refusal>,
+    used: bool,
+) -> Result<Fine, Refusal>
     ensures { (st : Stack) → used ≡ used_up n.rule st → FollowsOn v st result (drop 1 st) (leave_one (rec_in s.now) n.rule n.first node) }
 {
-    let Verdict::Fine { ty, next, count } = v else {
-        return v;
-    };
-    let rule = n.rule;
-    let body = rules::wanted(s, rule, n.first);
+    let f = v?;
+    let body = rules::wanted(s, n.rule, n.first);
     if !used {
-        return refused(14, node);
+        return Err(Reason::Unused.at(node));
     }
-    if ty != body {
-        return clash(node, rules::number(body), ty);
+    if f.ty != body {
+        return Err(clash(node, u16::from(body), f.ty));
     }
-    Verdict::Fine {
-        ty: n.first,
-        next,
-        count,
-    }
+    Ok(Fine { ty: n.first, ..f })
 }
 
 // The variable, at c and of a sort, goes out of scope.
@@ -192,36 +177,32 @@ fn leave_one(s: &[u8], n: Node, node: usize, c: usize, sort: u8, x: Checked) -> 
 // ---- between two subterms
 
 // On entering the second subterm: 12 if the first is no product at a projection, or not sharable at 1B.
-fn between(s: &[u8], rule: Rule, node: usize, v: Verdict) -> Verdict
+fn between(s: &[u8], rule: Rule, node: usize, v: Result<Fine, Refusal>) -> Result<Fine, Refusal>
     ensures { (st : Stack) → FollowsOn v st result (halves (rec_in s.now) rule result st) (between_of (rec_in s.now) rule node) }
 {
-    let Verdict::Fine {
-        ty,
-        next: _,
-        count: _,
-    } = v
-    else {
-        return v;
-    };
-    if rules::enters(s, rule, ty) {
-        return v;
+    let f = v?;
+    if rules::enters(s, rule, f.ty) {
+        return Ok(f);
     }
-    clash(node, rules::FORM, ty)
+    Err(clash(node, rules::FORM, f.ty))
 }
 
 // ---- leaving a node with two subterms
 
 // 12 if the types of the subterms, a and that of v, do not fit.
-fn after_two(s: &[u8], n: Node, node: usize, a: u8, v: Verdict) -> Verdict
+fn after_two(
+    s: &[u8],
+    n: Node,
+    node: usize,
+    a: u8,
+    v: Result<Fine, Refusal>,
+) -> Result<Fine, Refusal>
     ensures { (st : Stack) → FollowsOn v st result (drop (closes_of n.rule) st) (leave_two (rec_in s.now) n.rule n.first node a) }
 {
-    let Verdict::Fine { ty, next, count } = v else {
-        return v;
-    };
-    let rule = n.rule;
-    match rules::joined(s, rule, n.first, a, ty) {
-        Fit::Misfit(wanted, found) => clash(node, wanted, found),
-        Fit::Type(t) => Verdict::Fine { ty: t, next, count },
+    let f = v?;
+    match rules::joined(s, n.rule, n.first, a, f.ty) {
+        Ok(ty) => Ok(Fine { ty, ..f }),
+        Err(m) => Err(clash(node, m.wanted, m.found)),
     }
 }
 
@@ -252,14 +233,14 @@ fn walk(s: &[u8], at: usize, node: usize, b: Binders, types: usize, second: bool
     let marks = own.used;
     let sorts = own.sorts;
     if n.subterms == 0 {
-        let k = binders::slot(c, records::wide(n.first));
+        let k = binders::slot(c, usize::from(n.first));
         return leaf(s, n, node, c, own.types[k], sorts, marks, types, second);
     }
     let rule = n.rule;
-    let o = rules::bound(rules::opens(s, rule, n.first));
-    if !o.fits {
-        return answered(clash(node, rules::FORM, n.first), marks);
-    }
+    let Some(opened) = rules::opens(s, rule, n.first) else {
+        return answered(Err(clash(node, rules::FORM, n.first)), marks);
+    };
+    let o = rules::bound(opened);
     own.types[c] = o.ty;
     own.sorts = binders::with_bit(sorts, c, o.sort);
     own.used = binders::with_bit(marks, c, 0);
@@ -272,41 +253,28 @@ fn walk(s: &[u8], at: usize, node: usize, b: Binders, types: usize, second: bool
     let first = x.verdict;
     let v = between(s, rule, node, first);
     let after = x.used;
-    let Verdict::Fine { ty, next, count } = v else {
+    let Ok(f) = v else {
         return answered(v, after);
     };
-    let q = rules::halves_of(s, rule, ty);
+    let q = rules::halves_of(s, rule, f.ty);
     let d = c + 1;
     own.types[c] = q.first;
     own.types[d] = q.second;
     own.sorts = binders::with_bit(binders::with_bit(sorts_then, c, 0), d, 0);
     own.used = binders::with_bit(binders::with_bit(after, c, 0), d, 0);
     own.count = c + rules::closes(rule);
-    x = walk(s, next, count, own, types, second);
-    leave_two(s, n, node, ty, x)
+    x = walk(s, f.next, f.count, own, types, second);
+    leave_two(s, n, node, f.ty, x)
 }
 
-// The type of a sheet's term, by its number, or a refusal.
-#[derive(Clone, Copy)]
-pub enum Typing {
-    Type(u8),
-    Refused(Refusal),
-}
-
-// The walk over the records of a sheet that has been read, with so many types, whose term starts at an offset.
-pub fn check(s: &[u8], at: usize, types: usize, second: bool) -> Typing
+// The type of a sheet's term, by its number: the walk over the records of a sheet that has been read, with so many types, whose term starts
+// at an offset.
+pub fn check(s: &[u8], at: usize, types: usize, second: bool) -> Result<u8, Refusal>
     requires { TermAt s.now types (edition_by second) at }
     ensures { said_typing result ≡ check_of (edition_by second) s.now }
 {
     let b = binders::none();
     let r = walk(s, at, 0, b, types, second);
-    let v = r.verdict;
-    match v {
-        Verdict::Fine {
-            ty,
-            next: _,
-            count: _,
-        } => Typing::Type(ty),
-        Verdict::Refused(refusal) => Typing::Refused(refusal),
-    }
+    let f = r.verdict?;
+    Ok(f.ty)
 }

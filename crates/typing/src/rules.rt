@@ -105,73 +105,64 @@ pub fn type_number(s: &[u8], types: usize, part: Part, second: bool) -> u16
     requires { (part.shape ≤ 2) × (types ≤ 256) }
     ensures { result ≡ number_below (stands_for (rec_in s.now) (ty_in (said_part part) (edition_by second))) types 0 }
 {
-    let mut k: usize = 0;
-    while k < types {
+    for k in 0..types {
         let t = k as u8;
         if is_type_of(s, t, part, second) {
-            return number(t);
+            return u16::from(t);
         }
-        k = k + 1;
     }
     FORM
 }
 
-pub fn number(t: u8) -> u16
-    ensures { result ≡ t }
-{
-    t as u16
-}
-
-// What entering a node does: bind nothing, a sharable or a linear variable of a type, or find a written type of the wrong shape.
-#[derive(Clone, Copy)]
+// What entering a node binds: nothing, or a sharable or a linear variable of a type.
+#[derive(Clone, Copy, Debug, PartialEq, Eq)]
 pub enum Opening {
     Nothing,
     Shared(u8),
     Linear(u8),
-    Misfit,
 }
 
-pub fn opens(s: &[u8], rule: Rule, t: u8) -> Opening
+// None where the written type has the wrong shape.
+pub fn opens(s: &[u8], rule: Rule, t: u8) -> Option<Opening>
     ensures { result ≡ opening_of rule t (rec_in s.now t) }
 {
     let q = records::sides_of(s, t);
     match rule {
         Rule::Function => {
             if q.kind == 3 {
-                Opening::Shared(q.left)
+                Some(Opening::Shared(q.left))
             } else {
-                Opening::Misfit
+                None
             }
         }
         Rule::LinearFunction => {
             if q.kind == 4 {
-                Opening::Linear(q.left)
+                Some(Opening::Linear(q.left))
             } else {
-                Opening::Misfit
+                None
             }
         }
         Rule::Pair => {
             if q.kind == 2 {
-                Opening::Nothing
+                Some(Opening::Nothing)
             } else {
-                Opening::Misfit
+                None
             }
         }
         Rule::FixedPoint => {
             if q.kind <= 2 {
-                Opening::Shared(t)
+                Some(Opening::Shared(t))
             } else {
-                Opening::Misfit
+                None
             }
         }
-        _ => Opening::Nothing,
+        _ => Some(Opening::Nothing),
     }
 }
 
-// What an opening binds: so many variables, 0 or 1, of a type and a sort.
-#[derive(Clone, Copy)]
+// What an opening binds: so many variables, 0 or 1, of a type and a sort. Numbers, since the walk stores them whether or not there is one.
+#[derive(Clone, Copy, Debug, PartialEq, Eq)]
 pub struct Binding {
-    pub fits: bool,
     pub count: usize,
     pub ty: u8,
     pub sort: u8,
@@ -182,28 +173,19 @@ pub fn bound(o: Opening) -> Binding
 {
     match o {
         Opening::Nothing => Binding {
-            fits: true,
             count: 0,
             ty: 0,
             sort: 0,
         },
         Opening::Shared(ty) => Binding {
-            fits: true,
             count: 1,
             ty,
             sort: 0,
         },
         Opening::Linear(ty) => Binding {
-            fits: true,
             count: 1,
             ty,
             sort: 1,
-        },
-        Opening::Misfit => Binding {
-            fits: false,
-            count: 0,
-            ty: 0,
-            sort: 0,
         },
     }
 }
@@ -230,7 +212,7 @@ pub fn enters(s: &[u8], rule: Rule, t: u8) -> bool
 }
 
 // The types of the variables that are bound between two subterms, the first one's type being t: a projection's two, or the one of 1B.
-#[derive(Clone, Copy)]
+#[derive(Clone, Copy, Debug, PartialEq, Eq)]
 pub struct Halves {
     pub first: u8,
     pub second: u8,
@@ -252,50 +234,62 @@ pub fn halves_of(s: &[u8], rule: Rule, t: u8) -> Halves
     }
 }
 
-// The type of a node, or the type number wanted and the one found.
-#[derive(Clone, Copy)]
-pub enum Fit {
-    Type(u8),
-    Misfit(u16, u8),
+// Two types that do not fit: the type number wanted and the one found.
+#[derive(Clone, Copy, Debug, PartialEq, Eq)]
+pub struct Misfit {
+    pub wanted: u16,
+    pub found: u8,
 }
 
 // A function of type f, an arrow of kind k, at an argument of type a.
-fn applied(s: &[u8], k: u8, f: u8, a: u8) -> Fit
+fn applied(s: &[u8], k: u8, f: u8, a: u8) -> Result<u8, Misfit>
     ensures { result ≡ applied_of (rec_in s.now f) k f a }
 {
     let q = records::sides_of(s, f);
     if q.kind != k {
-        return Fit::Misfit(FORM, f);
+        return Err(Misfit {
+            wanted: FORM,
+            found: f,
+        });
     }
     if a != q.left {
-        return Fit::Misfit(number(q.left), a);
+        return Err(Misfit {
+            wanted: u16::from(q.left),
+            found: a,
+        });
     }
-    Fit::Type(q.right)
+    Ok(q.right)
 }
 
 // A pair of the written type t, of two terms of types a and b. The first half that differs is named.
-fn paired(s: &[u8], t: u8, a: u8, b: u8) -> Fit
+fn paired(s: &[u8], t: u8, a: u8, b: u8) -> Result<u8, Misfit>
     ensures { result ≡ paired_of (rec_in s.now t) t a b }
 {
     let q = records::sides_of(s, t);
     if a != q.left {
-        return Fit::Misfit(number(q.left), a);
+        return Err(Misfit {
+            wanted: u16::from(q.left),
+            found: a,
+        });
     }
     if b != q.right {
-        return Fit::Misfit(number(q.right), b);
+        return Err(Misfit {
+            wanted: u16::from(q.right),
+            found: b,
+        });
     }
-    Fit::Type(t)
+    Ok(t)
 }
 
 // Types of the two subterms to the type of the node.
-pub fn joined(s: &[u8], rule: Rule, t: u8, a: u8, b: u8) -> Fit
+pub fn joined(s: &[u8], rule: Rule, t: u8, a: u8, b: u8) -> Result<u8, Misfit>
     ensures { result ≡ joined_of (rec_in s.now) rule t a b }
 {
     match rule {
         Rule::Application => applied(s, 3, a, b),
         Rule::LinearApplication => applied(s, 4, a, b),
         Rule::Pair => paired(s, t, a, b),
-        _ => Fit::Type(b),
+        _ => Ok(b),
     }
 }
 

@@ -72,10 +72,8 @@ pub fn put_form(out: &mut [u8], from: usize, form: &[u8], x: usize, y: usize, z:
     ensures { WroteText out.old from (filled form.now x y z) out.new result }
 {
     let mut at = from;
-    let mut i: usize = 0;
-    while i < form.len() {
-        at = put_letter(out, at, form[i], x, y, z);
-        i = i + 1;
+    for c in form {
+        at = put_letter(out, at, *c, x, y, z);
     }
     at
 }

@@ -17,7 +17,7 @@ ghost use Rattle.verilog.specs.Groups.{opening_text, body_text};
 ghost use Rattle.translator.specs.Made.{Keeps};
 ghost use Rattle.translator.specs.Said.{AnswerSays, called};
 
-use translator::{Answer, Made};
+use answers::{Reason, Refusal};
 use walk::Group;
 use wiring::Counts;
 
@@ -54,50 +54,43 @@ fn put_module(work: &[u16], out: &mut [u8], end: usize, pins: usize) -> usize
 
 // Of the lean netlist that stands in the working memory: 18 where a ring point is kept, then 17 with the length needed where the output is
 // shorter, or the module at the start of the output. The first pass only tells the length.
-fn export_lean(work: &[u16], out: &mut [u8], end: usize, pins: usize) -> Answer
+fn export_lean(work: &[u16], out: &mut [u8], end: usize, pins: usize) -> Result<usize, Refusal>
     requires { LeanReady work.now end pins }
     ensures { AnswerSays result out.old out.new (lean_exported (lean_in work.now end pins) (length out.old)) }
 {
-    let place = card::rings::lowest(work, end, pins);
-    if place < memory::TERMINALS {
-        return translator::refused(18, place);
+    if let Some(place) = card::rings::lowest(work, end, pins) {
+        return Err(Reason::VerilogRing.at(place));
     }
     let mut none = [0u8; 1];
     let n = put_module(work, &mut none, end, pins);
     if out.len() < n {
-        return translator::refused(17, n);
+        return Err(Reason::ShortOutput.at(n));
     }
-    let written = put_module(work, out, end, pins);
-    Answer::Written(written)
+    Ok(put_module(work, out, end, pins))
 }
 
 // .. still to be made of the full one.
-fn export_net(work: &mut [u16], out: &mut [u8], counts: Counts) -> Answer
+fn export_net(work: &mut [u16], out: &mut [u8], counts: Counts) -> Result<usize, Refusal>
     requires { (Ready work.old counts.elements counts.wires counts.pins) × (All Known (net_in work.old counts.elements counts.wires counts.pins).elements) }
     ensures { (AnswerSays result out.old out.new (exported (net_in work.old counts.elements counts.wires counts.pins) (length out.old)))
         × (Keeps work.old work.new) }
 {
-    let elements = counts.elements;
-    let wires = counts.wires;
-    let pins = counts.pins;
-    let end = lean::make_lean(work, elements, wires, pins);
-    export_lean(&work[..], out, end, pins)
+    let end = lean::make_lean(work, counts.elements, counts.wires, counts.pins);
+    export_lean(&work[..], out, end, counts.pins)
 }
 
 // The netlist is made and exported. The working memory is not yet cleared.
-fn export_sheet(sheet: &[u8], out: &mut [u8], work: &mut [u16]) -> Answer
+fn export_sheet(sheet: &[u8], out: &mut [u8], work: &mut [u16]) -> Result<usize, Refusal>
     ensures { (AnswerSays result out.old out.new (export (length work.old) sheet.now (length out.old)))
         × (Keeps work.old work.new) }
 {
-    match translator::make(sheet, work, true) {
-        Made::Refused(refusal) => Answer::Refused(refusal),
-        Made::Net(counts, _) => export_net(work, out, counts),
-    }
+    let made = translator::make(sheet, work, true)?;
+    export_net(work, out, made.counts)
 }
 
 // The lean netlist of a sheet is written to the start of the output as a module of Verilog; or the sheet is refused, and the output stays.
 // The working memory is left as by every call.
-pub fn verilog(sheet: &[u8], out: &mut [u8], work: &mut [u16]) -> Answer
+pub fn verilog(sheet: &[u8], out: &mut [u8], work: &mut [u16]) -> Result<usize, Refusal>
     ensures { called result out.new work.new ≡ verilog_call sheet.now out.old work.old }
 {
     let r = export_sheet(sheet, out, work);

@@ -14,7 +14,7 @@ use lean::{KIND, LEAN, LEFT_OUT, PINS};
 use netlist::{In, Out, Terminal};
 
 // The groups of lines, as they stand in the module.
-#[derive(Clone, Copy)]
+#[derive(Clone, Copy, Debug, PartialEq, Eq)]
 pub enum Group {
     Ports,
     Elements,
@@ -66,10 +66,8 @@ fn count(group: Group, end: usize, pins: usize) -> usize
     ensures { result ≡ count_of group end pins }
 {
     match group {
-        Group::Ports => pins,
-        Group::Elements => end,
-        Group::Wires => end,
-        Group::Pins => pins,
+        Group::Ports | Group::Pins => pins,
+        Group::Elements | Group::Wires => end,
     }
 }
 
@@ -108,10 +106,8 @@ pub fn put_group(
 {
     let n = count(group, end, pins);
     let mut at = from;
-    let mut x: usize = 0;
-    while x < n {
+    for x in 0..n {
         at = put_line(work, end, pins, group, x, out, at);
-        x = x + 1;
     }
     at
 }

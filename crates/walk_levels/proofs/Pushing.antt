@@ -1,6 +1,6 @@
 -- A level that is stored with its scope is read back, and nothing outside it changes. Assumes nothing.
 use Prim.Native.Nat.{ℕ, zero, suc, ◌+◌, ◌*◌, ◌≤◌, ◌<◌}
-use mathlib.Core.Path.{◌≡◌, refl, sym, ap, ◌∙◌}
+use mathlib.Core.Path.{◌≡◌, ap, ◌∙◌}
 use mathlib.Core.List.{List, [], ◌∷◌}
 use native.Mathlib.Omega.{arith}
 use lib.ListN.{length, get_or, set, length-set}
@@ -10,7 +10,6 @@ use Rattle.making_memory.specs.Map.{scope_at, levels_at, making_size}
 use Rattle.walk_levels.specs.declared.Level.{Level}
 use Rattle.walk_levels.specs.declared.Around.{Around}
 use Rattle.walk_levels.specs.Levels.{scopes_at, level_in, scope_in, level_numbers, scope_numbers, pushed}
-use Rattle.scopes.specs.Entries.{value_at}
 use Rattle.walk_levels.proofs.Keeping.{Outside}
 
 -- each number of a run is read back

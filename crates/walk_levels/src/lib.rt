@@ -14,7 +14,7 @@ pub const SCOPES: usize = 32400;
 
 // What is done with what comes: a form; a flag; the offset of a word; how many names, arguments or elements there are; a node, its type and
 // its depth; and an offset in the text, or a node.
-#[derive(Clone, Copy)]
+#[derive(Clone, Copy, Debug, PartialEq, Eq)]
 pub struct Level {
     pub form: u16,
     pub flag: u16,
@@ -27,7 +27,7 @@ pub struct Level {
 }
 
 // The scope of a level: the frame of its definition, how many entries there are, and how many terms of tuples wait.
-#[derive(Clone, Copy)]
+#[derive(Clone, Copy, Debug, PartialEq, Eq)]
 pub struct Around {
     pub frame: u16,
     pub top: u16,
@@ -51,6 +51,7 @@ pub fn level_at(work: &[u16], m: u16) -> Level
     }
 }
 
+// A store a line: `copy_from_slice` of an array of the same eight numbers is no plainer.
 pub fn set_level(work: &mut [u16], m: u16, l: Level)
     requires { InLevels work.old m }
     ensures { work.new ≡ sets work.old (levels_at + 8 * m) (level_numbers l) }

@@ -20,7 +20,7 @@ use Rattle.notation_machine.specs.TypeSteps.{AllShort}
 use Rattle.words.specs.Next.{run_at, name_in, next_of, told}
 use Rattle.words.specs.Lexed.{from, Lexed, Stands}
 use Rattle.words.proofs.LexLaws.{stands}
-use Rattle.making_memory.specs.Map.{types_at, scope_at, halves_at, clauses_at, frames_at, type_count_at, node_count_at, put_count_at, clause_count_at, second_at_lem, levels_at, making_size}
+use Rattle.making_memory.specs.Map.{scope_at, clauses_at, frames_at, type_count_at, node_count_at, put_count_at, clause_count_at, second_at_lem, levels_at, making_size}
 use Rattle.made_types.specs.Held.{HoldsState, TypesOnly}
 use Rattle.made_nodes.specs.Held.{TermHeld, MadeOnly}
 use Rattle.made_nodes.specs.declared.Sub.{Sub}

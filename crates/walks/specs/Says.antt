@@ -1,28 +1,26 @@
 -- What the walks answer: in each record, whatever text, scope and state the memory held, the answer is that of the definition. Assumes
 -- nothing.
-use Rattle.std.specs.Prelude.{ℕ, suc, ◌+◌, ◌≤◌, ◌<◌, ◌≡◌, Bool, false, List, length, take}
-use Rattle.calculus.specs.Answer.{Answer, good, refused, numbered, ◌>>=◌}
+use Rattle.std.specs.Prelude.{ℕ, suc, ◌+◌, ◌≤◌, ◌<◌, ◌≡◌, Bool, List, Result, Ok, Err, length, take}
+use Rattle.calculus.specs.Answer.{Answer, good, refused, ◌>>=◌}
+use Rattle.answers.specs.declared.Refusal.{Refusal}
+use Rattle.answers.specs.Refusals.{said_why}
 use Rattle.calculus.specs.Record.{All}
 use Rattle.notation_calculus.specs.Words.{Word}
-use Rattle.notation_calculus.specs.Trees.{Bound, TypeTree, Tree, Text}
-use Rattle.notation_calculus.specs.Grammar.{most_nested, Got, numbers_at, type_at, term_at}
-use Rattle.notation_calculus.specs.Making.{State, Found, Scope, entries, numbers_in, clause_for, one_put, most_entries, FoundAll, Made, term_of}
+use Rattle.notation_calculus.specs.Trees.{Bound, Tree, Text}
+use Rattle.notation_calculus.specs.Grammar.{most_nested, Got, numbers_at, term_at}
+use Rattle.notation_calculus.specs.Making.{State, Found, Scope, entries, numbers_in, clause_for, one_put, most_entries, FoundAll, term_of}
 use Rattle.notation_machine.specs.Bodies.{words_for}
 use Rattle.notation_machine.specs.TypeFrom.{type_from, types_from}
 use Rattle.words.specs.Next.{run_at}
 use Rattle.words.specs.Lexed.{from, Lexed}
 use Rattle.made_types.specs.Held.{HoldsState}
-use Rattle.made_nodes.specs.Held.{TermHeld}
+use Rattle.made_nodes.specs.declared.Sub.{Sub}
+use Rattle.made_nodes.specs.Held.{MadeIn}
 use Rattle.clauses.specs.Meant.{values_in}
 use Rattle.scopes.specs.Frames.{frame_in}
-use Rattle.walks.specs.declared.TypeEnd as type
-use Rattle.walks.specs.declared.TypeEnd.TheVariants as type-end
-use Rattle.walks.specs.declared.TypesEnd as types
-use Rattle.walks.specs.declared.TypesEnd.TheVariants as types_end_lem
-use Rattle.walks.specs.declared.PutEnd as put
-use Rattle.walks.specs.declared.PutEnd.TheVariants as put-end
-use Rattle.walks.specs.declared.TermEnd as term
-use Rattle.walks.specs.declared.TermEnd.TheVariants as term-end
+use Rattle.walks.specs.declared.TypeEnd.{TypeEnd}
+use Rattle.walks.specs.declared.TypesEnd.{TypesEnd}
+use Rattle.walks.specs.declared.PutAt.{PutAt}
 use Rattle.walks.specs.Walkable.{row_bodies, Walkable}
 use Rattle.walks.specs.Walked.{TypesWalked, TermsWalked}
 
@@ -46,11 +44,11 @@ pub record TypeCame (text w : List ℕ) (t end : ℕ) (g : Got Found) : Type 0 w
   pub state : HoldsState w g.value.state
   pub rest : Offset text end g.rest
 
-abbrev pub TypeAnswers : List ℕ → List ℕ → type.TypeEnd → Answer (Got Found) → Type 0
-TypeAnswers text w (type-end.At t end) (good g) = TypeCame text w t end g
-TypeAnswers text w (type-end.At t end) (refused why) = ⊥
-TypeAnswers text w (type-end.Refused number place) (good g) = ⊥
-TypeAnswers text w (type-end.Refused number place) (refused why) = why ≡ numbered number place
+abbrev pub TypeAnswers : List ℕ → List ℕ → Result TypeEnd Refusal → Answer (Got Found) → Type 0
+TypeAnswers text w (Ok t) (good g) = TypeCame text w t.ty t.end g
+TypeAnswers text w (Ok t) (refused why) = ⊥
+TypeAnswers text w (Err e) (good g) = ⊥
+TypeAnswers text w (Err e) (refused why) = why ≡ said_why e
 
 -- a type can be worked out at an offset, with so many levels
 pub record CanType (text w : List ℕ) (at more frame top : ℕ) : Type 0 where
@@ -60,7 +58,7 @@ pub record CanType (text w : List ℕ) (at more frame top : ℕ) : Type 0 where
   pub levels : more ≤ most_nested
 
 -- the type at an offset, as a walk of terms wants it
-pub record TypeSays (text w : List ℕ) (at more frame top : ℕ) (r : type.TypeEnd) (w' : List ℕ) : Type 0 where
+pub record TypeSays (text w : List ℕ) (at more frame top : ℕ) (r : Result TypeEnd Refusal) (w' : List ℕ) : Type 0 where
   pub walked : TypesWalked more top w w'
   pub says : (X : Text) (S : Scope) (σ : State) → Walkable text w frame top X S σ → TypeAnswers text w' r (type_from X more S σ (from text at))
 
@@ -73,14 +71,14 @@ pub record TypesCame (text w : List ℕ) (top n end : ℕ) (g : Got FoundAll) : 
   pub state : HoldsState w g.value.state
   pub rest : Offset text end g.rest
 
-abbrev pub TypesAnswer : List ℕ → List ℕ → ℕ → types.TypesEnd → Answer (Got FoundAll) → Type 0
-TypesAnswer text w top (types_end_lem.At n end) (good g) = TypesCame text w top n end g
-TypesAnswer text w top (types_end_lem.At n end) (refused why) = ⊥
-TypesAnswer text w top (types_end_lem.Refused number place) (good g) = ⊥
-TypesAnswer text w top (types_end_lem.Refused number place) (refused why) = why ≡ numbered number place
+abbrev pub TypesAnswer : List ℕ → List ℕ → ℕ → Result TypesEnd Refusal → Answer (Got FoundAll) → Type 0
+TypesAnswer text w top (Ok t) (good g) = TypesCame text w top t.count t.end g
+TypesAnswer text w top (Ok t) (refused why) = ⊥
+TypesAnswer text w top (Err e) (good g) = ⊥
+TypesAnswer text w top (Err e) (refused why) = why ≡ said_why e
 
 -- [ type, type ] at an offset, behind a name at a place; or nothing
-pub record TypesSay (text w : List ℕ) (at more frame top name : ℕ) (r : types.TypesEnd) (w' : List ℕ) : Type 0 where
+pub record TypesSay (text w : List ℕ) (at more frame top name : ℕ) (r : Result TypesEnd Refusal) (w' : List ℕ) : Type 0 where
   pub walked : TypesWalked more top w w'
   pub says : (X : Text) (S : Scope) (σ : State) → Walkable text w frame top X S σ → TypesAnswer text w' top r (types_from X more S name σ (from text at))
 
@@ -113,11 +111,11 @@ pub record PutCame (text w : List ℕ) (X : Text) (into start end top : ℕ) (p 
   pub body : Offset text start p.body
   pub rest : Offset text end p.rest
 
-abbrev pub PutAnswers : List ℕ → List ℕ → Text → ℕ → put.PutEnd → Answer PutThere → Type 0
-PutAnswers text w X into (put-end.At q) (good p) = PutCame text w X into q.body q.end q.top p
-PutAnswers text w X into (put-end.At q) (refused why) = ⊥
-PutAnswers text w X into (put-end.Refused number place) (good p) = ⊥
-PutAnswers text w X into (put-end.Refused number place) (refused why) = why ≡ numbered number place
+abbrev pub PutAnswers : List ℕ → List ℕ → Text → ℕ → Result PutAt Refusal → Answer PutThere → Type 0
+PutAnswers text w X into (Ok q) (good p) = PutCame text w X into q.body q.end q.top p
+PutAnswers text w X into (Ok q) (refused why) = ⊥
+PutAnswers text w X into (Err e) (good p) = ⊥
+PutAnswers text w X into (Err e) (refused why) = why ≡ said_why e
 
 -- a definition of a sort can be put in, by a name at a place, with its numbers at an offset and so many type arguments that wait from `top` on
 pub record CanPut (text w : List ℕ) (name at types frame top into : ℕ) : Type 0 where
@@ -127,19 +125,13 @@ pub record CanPut (text w : List ℕ) (name at types frame top into : ℕ) : Typ
   pub above : into < frame
   pub few : top + types ≤ most_entries
 
-pub record PutSays (text w : List ℕ) (sort : Bool) (name at types frame top into : ℕ) (r : put.PutEnd) (w' : List ℕ) : Type 0 where
+pub record PutSays (text w : List ℕ) (sort : Bool) (name at types frame top into : ℕ) (r : Result PutAt Refusal) (w' : List ℕ) : Type 0 where
   pub walked : TypesWalked (suc into) top w w'
   pub says :
       (X : Text) (S : Scope) (σ : State) → Walkable text w frame top X S σ → All (λ (t : ℕ). t < length σ.table) (values_in w top types)
       → PutAnswers text w' X into r (put_from X (row_bodies text w 0 (length X.clauses)) sort S σ (bound_at text name) (values_in w top types) (from text at))
 
 -- ---- terms
-
-abbrev pub TermAnswers : List ℕ → term.TermEnd → Answer Made → Type 0
-TermAnswers w (term-end.At s) (good m) = HoldsState w m.state × TermHeld w s m
-TermAnswers w (term-end.At s) (refused why) = ⊥
-TermAnswers w (term-end.Refused number place) (good m) = ⊥
-TermAnswers w (term-end.Refused number place) (refused why) = why ≡ numbered number place
 
 -- a term can be made at an offset, with so many levels: the grammar has read one there; the variables begin where the frame says
 pub record CanTerm (text w : List ℕ) (at more frame top : ℕ) : Type 0 where
@@ -151,6 +143,6 @@ pub record CanTerm (text w : List ℕ) (at more frame top : ℕ) : Type 0 where
   pub tree : Got Tree
   pub reads : term_at most_nested (from text at) ≡ good tree
 
-pub record TermSays (text w : List ℕ) (at more frame top : ℕ) (r : term.TermEnd) (w' : List ℕ) : Type 0 where
+pub record TermSays (text w : List ℕ) (at more frame top : ℕ) (r : Result Sub Refusal) (w' : List ℕ) : Type 0 where
   pub walked : TermsWalked more top w w'
-  pub says : (X : Text) (S : Scope) (σ : State) (g : Got Tree) → Walkable text w frame top X S σ → (frame_in w frame).variables ≡ S.under → term_at most_nested (from text at) ≡ good g → TermAnswers w' r (term_of X more S σ g.value)
+  pub says : (X : Text) (S : Scope) (σ : State) (g : Got Tree) → Walkable text w frame top X S σ → (frame_in w frame).variables ≡ S.under → term_at most_nested (from text at) ≡ good g → MadeIn w' r (term_of X more S σ g.value)

@@ -7,8 +7,8 @@ use mathlib.Core.List.{List, [], ◌∷◌, ◌++◌, map}
 use native.Mathlib.Omega.{arith}
 use native.Mathlib.Nat.{add-zero}
 use native.Mathlib.Numerals.{add-one}
-use lib.ListN.{length, get_or, set, drop, replicate, length-replicate}
-use lib.Seq.{sets, drop-cons, get_or-set_other}
+use lib.ListN.{length, get_or, set, take, drop, replicate, length-replicate}
+use lib.Seq.{sets, sets-eq, drop-cons, get_or-set_other}
 use Rattle.laws.proofs.Regions.{drop_past}
 use Rattle.calculus.specs.Net.{part_side}
 use Rattle.memory.specs.Map.{code}
@@ -25,6 +25,10 @@ module _ (vs work : List ℕ) {whole : List ℕ} (to i : ℕ) (e : sets work (to
 
   pub run_end : length vs ≤ i → work ≡ whole
   run_end h = rw (drop_past vs i h) at e
+
+-- a run stored at once
+pub run-whole : (vs w : List ℕ) (to n : ℕ) → length vs ≡ n → to + n ≤ length w → sets w to vs ≡ take to w ++ vs ++ drop (to + n) w
+run-whole vs w to n e h = sets-eq vs w to (omega arith) ∙ ap (λ (k : ℕ). take to w ++ vs ++ drop (to + k) w) e
 
 -- ---- what is stored
 

@@ -141,10 +141,6 @@ looped w at l k =
 unfoldable pub closed_in : List ℕ → Node → ℕ → ℕ → Built → List ℕ
 closed_in w node top l r = cond (is_fixed_point node.rule) (looped w (stack_at + top) l r.wires) w
 
--- the same, with another type, another interface and more wires
-abbrev pub shown_as : Built → ℕ → ℕ → ℕ → Built
-shown_as r ty len wires = record { past = r.past; ty = ty; len = len; next = r.next; elements = r.elements; wires = wires }
-
 unfoldable pub closed : Node → ℕ → Built → Built
 closed node l r = record {
   past = r.past;

@@ -38,16 +38,13 @@ fn unturned(work: &mut [u16], to: usize, l: usize, n: usize, output: bool)
     requires { (to + l ≤ length work.old) × (n + 2 * l ≤ 8192) }
     ensures { work.new ≡ sets work.old to (face output (replicate l false) n) }
 {
-    let mut j: usize = 0;
-    while j < l {
-        let c = end_of(n + 2 * j, !output);
-        work[to + j] = c;
-        j = j + 1;
+    for j in 0..l {
+        work[to + j] = end_of(n + 2 * j, !output);
     }
 }
 
 // A side of an arrow, or the whole, whose interface is still to be made at `to`: its type, where its points start, and which interface.
-#[derive(Clone, Copy)]
+#[derive(Clone, Copy, Debug, PartialEq, Eq)]
 pub struct Due {
     pub ty: u8,
     pub to: usize,
@@ -86,9 +83,7 @@ fn arrow(s: &[u8], sizes: &[u8], work: &mut [u16], x: Sided, due: Due) -> Due
     ensures { (q : Arrow s.now sizes.now x (length work.old) due.to due.n)
         → StillDue q due result work.old work.new }
 {
-    let to = due.to;
-    let n = due.n;
-    let output = due.output;
+    let Due { to, n, output, .. } = due;
     let l = size_of(sizes, x.left);
     if l <= size_of(sizes, x.right) {
         interface(s, sizes, work, to, x.left, n, !output);
@@ -96,15 +91,14 @@ fn arrow(s: &[u8], sizes: &[u8], work: &mut [u16], x: Sided, due: Due) -> Due
             ty: x.right,
             to: to + l,
             n: n + 2 * l,
-            output,
+            ..due
         };
     }
     interface(s, sizes, work, to + l, x.right, n + 2 * l, output);
     Due {
         ty: x.left,
-        to,
-        n,
         output: !output,
+        ..due
     }
 }
 
@@ -121,10 +115,8 @@ pub fn terminals(work: &mut [u16], to: usize, k: usize, n: usize)
     requires { (to + k < length work.old) × (n + k < 8192) }
     ensures { work.new ≡ sets work.old to (map code (part_side k n)) }
 {
-    let mut i: usize = 0;
-    while i < k {
+    for i in 0..k {
         work[to + i] = netlist::code_of(Terminal::Input(In((n + i) as u16)));
-        i = i + 1;
     }
     work[to + k] = netlist::code_of(Terminal::Output(Out((n + k) as u16)));
 }

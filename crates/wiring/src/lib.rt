@@ -20,8 +20,7 @@ fn own_terminals(s: &[u8], sizes: &[u8], node: Node) -> usize
     requires { length sizes.now ≡ 256 }
     ensures { result ≡ own_in s.now sizes.now node }
 {
-    let rule = node.rule;
-    match rule {
+    match node.rule {
         Rule::Constant => faces::terminals_of(node.first),
         _ => {
             if node.subterms == 1 {
@@ -38,19 +37,17 @@ pub fn count(s: &[u8], sizes: &[u8], from: usize, nodes: usize) -> usize
     ensures { (q : Read s.now sizes.now from nodes) → result ≡ (make q.told.sheet.table q.told.sheet.term [] 0).next }
 {
     let mut at = from;
-    let mut left = nodes;
     let mut total: usize = 0;
-    while left > 0 {
+    for _ in 0..nodes {
         let node = records::node_at(s, at);
         at = node.next;
         total = total + own_terminals(s, sizes, node);
-        left = left - 1;
     }
     total
 }
 
 // The numbers of elements, wires and pins that stand in the working memory.
-#[derive(Clone, Copy)]
+#[derive(Clone, Copy, Debug, PartialEq, Eq)]
 pub struct Counts {
     pub elements: usize,
     pub wires: usize,

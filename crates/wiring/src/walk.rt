@@ -1,18 +1,20 @@
 // The making walk: what a term makes, its interface on a stack in the working memory.
+// The sheet's bytes and its types' sizes stay two arguments: in one struct, each clause would have to name two fields of it.
+// A binder's place stays a number, 2 n + 1 or 2 h: it is kept in the fixed memory.
 ghost use Rattle.std.specs.Prelude.{◌≡◌, true, false, ◌∷◌, [], ◌+◌, ◌*◌, ◌≤◌, ◌<◌, length, get_or};
 ghost use Rattle.std.proofs.lemmas.List.Edits.{sets};
 ghost use Rattle.records.specs.Rules.{is_constant};
 ghost use Rattle.memory.specs.Map.{binders_at, memory_size};
 ghost use Rattle.wiring.specs.Links.{Apart};
 ghost use Rattle.wiring.specs.Sides.{KnownType};
-ghost use Rattle.wiring.specs.Asks.{Asks, Here, Leaves, Showable, shown, Opened, Entered, looped, shown_as, closed, closed_in, Closable, halved, Between, middle, between_in, applied_in, Finishable, finished, finished_in};
+ghost use Rattle.wiring.specs.Asks.{Asks, Here, Leaves, Showable, shown, Opened, Entered, looped, closed, closed_in, Closable, halved, Between, middle, between_in, applied_in, Finishable, finished, finished_in};
 
 use crate::{faces, wires};
 use memory::{BINDERS, ELEMENTS, POINT, STACK};
 use records::{Node, Rule};
 
 // The next free terminal, the numbers of elements and wires made, the height of the stack and the number of binders in scope.
-#[derive(Clone, Copy)]
+#[derive(Clone, Copy, Debug, PartialEq, Eq)]
 pub struct State {
     pub next: usize,
     pub elements: usize,
@@ -22,7 +24,7 @@ pub struct State {
 }
 
 // What a term leaves: the offset past it, its type, the length of its interface at the height on entry, and the numbers after it.
-#[derive(Clone, Copy)]
+#[derive(Clone, Copy, Debug, PartialEq, Eq)]
 pub struct Built {
     pub past: usize,
     pub ty: u8,
@@ -60,23 +62,18 @@ fn variable(s: &[u8], sizes: &[u8], work: &mut [u16], node: Node, st: State) -> 
     requires { (Here s.now sizes.now work.old node st) × (node.subterms ≡ 0) × (is_constant node.rule ≡ false) }
     ensures { (q : Here s.now sizes.now work.old node st) → Leaves q.asks result work.new }
 {
-    let past = node.next;
-    let next = st.next;
-    let elements = st.elements;
-    let wires = st.wires;
-    let top = st.top;
     let k = BINDERS + 2 * (st.scope - 1 - records::wide(node.first));
     let ty = work[k] as u8;
     let place = work[k + 1] as usize;
     let len = faces::size_of(sizes, ty);
-    show(s, sizes, work, STACK + top, ty, place);
+    show(s, sizes, work, STACK + st.top, ty, place);
     Built {
-        past,
+        past: node.next,
         ty,
         len,
-        next,
-        elements,
-        wires,
+        next: st.next,
+        elements: st.elements,
+        wires: st.wires,
     }
 }
 
@@ -85,25 +82,19 @@ fn constant(s: &[u8], sizes: &[u8], work: &mut [u16], node: Node, st: State) -> 
     requires { (Here s.now sizes.now work.old node st) × (is_constant node.rule ≡ true) }
     ensures { (q : Here s.now sizes.now work.old node st) → Leaves q.asks result work.new }
 {
-    let past = node.next;
-    let ty = node.second;
-    let number = node.first;
-    let next = st.next;
-    let elements = st.elements;
-    let wires = st.wires;
-    let top = st.top;
-    let part = parts::part_of(number as u16);
+    let number = node.first as u16;
+    let part = parts::part_of(number);
     let inputs = part.inputs as usize;
     let len = inputs + part.outputs as usize;
-    work[ELEMENTS + elements] = number as u16;
-    faces::terminals(work, STACK + top, inputs, next);
+    work[ELEMENTS + st.elements] = number;
+    faces::terminals(work, STACK + st.top, inputs, st.next);
     Built {
-        past,
-        ty,
+        past: node.next,
+        ty: node.second,
         len,
-        next: next + len,
-        elements: elements + 1,
-        wires,
+        next: st.next + len,
+        elements: st.elements + 1,
+        wires: st.wires,
     }
 }
 
@@ -111,8 +102,7 @@ fn leaf(s: &[u8], sizes: &[u8], work: &mut [u16], node: Node, st: State) -> Buil
     requires { (Here s.now sizes.now work.old node st) × (node.subterms ≡ 0) }
     ensures { (q : Here s.now sizes.now work.old node st) → Leaves q.asks result work.new }
 {
-    let rule = node.rule;
-    match rule {
+    match node.rule {
         Rule::Constant => constant(s, sizes, work, node, st),
         _ => variable(s, sizes, work, node, st),
     }
@@ -123,22 +113,17 @@ fn open(s: &[u8], sizes: &[u8], work: &mut [u16], node: Node, st: State) -> Stat
     requires { (Here s.now sizes.now work.old node st) × (node.subterms ≡ 1) }
     ensures { (q : Here s.now sizes.now work.old node st) → Opened q result work.new }
 {
-    let next = st.next;
-    let elements = st.elements;
-    let wires = st.wires;
-    let top = st.top;
-    let scope = st.scope;
     let t = records::bound_by(s, node);
     let l = faces::size_of(sizes, t);
-    wires::fill(work, ELEMENTS + elements, l, POINT);
-    faces::interface(s, sizes, work, STACK + top, t, next, false);
-    bind(work, scope, t, 2 * next + 1);
+    wires::fill(work, ELEMENTS + st.elements, l, POINT);
+    faces::interface(s, sizes, work, STACK + st.top, t, st.next, false);
+    bind(work, st.scope, t, 2 * st.next + 1);
     State {
-        next: next + 2 * l,
-        elements: elements + l,
-        wires,
-        top: top + l,
-        scope: scope + 1,
+        next: st.next + 2 * l,
+        elements: st.elements + l,
+        top: st.top + l,
+        scope: st.scope + 1,
+        ..st
     }
 }
 
@@ -151,35 +136,27 @@ fn close_loop(work: &mut [u16], at: usize, l: usize, wires: usize)
     wires::copy(work, at + l, at, l);
 }
 
-// The same, with another type, another interface and more wires.
-fn shown_as(r: Built, ty: u8, len: usize, wires: usize) -> Built
-    ensures { result ≡ shown_as r ty len wires }
-{
-    Built {
-        past: r.past,
-        ty,
-        len,
-        next: r.next,
-        elements: r.elements,
-        wires,
-    }
-}
-
 // After the body, whose interface stands above the input interface: of a function both are the result, of a fixed point the body's.
 fn close(work: &mut [u16], node: Node, top: usize, l: usize, r: Built) -> Built
     requires { Closable work.old node top l r }
     ensures { (result ≡ closed node l r) × (work.new ≡ closed_in work.old node top l r) }
 {
     let ty = node.first;
-    let len = r.len;
-    let wires = r.wires;
-    let rule = node.rule;
-    match rule {
+    match node.rule {
         Rule::FixedPoint => {
-            close_loop(work, STACK + top, l, wires);
-            shown_as(r, ty, l, wires + l)
+            close_loop(work, STACK + top, l, r.wires);
+            Built {
+                ty,
+                len: l,
+                wires: r.wires + l,
+                ..r
+            }
         }
-        _ => shown_as(r, ty, l + len, wires),
+        _ => Built {
+            ty,
+            len: l + r.len,
+            ..r
+        },
     }
 }
 
@@ -189,11 +166,9 @@ fn bind_halves(s: &[u8], sizes: &[u8], work: &mut [u16], t: u8, scope: usize, to
     ensures { work.new ≡ halved s.now sizes.now work.old t scope top }
 {
     let x = records::sides_of(s, t);
-    let left = x.left;
-    let right = x.right;
-    let l = faces::size_of(sizes, left);
-    bind(work, scope, left, 2 * top);
-    bind(work, scope + 1, right, 2 * (top + l));
+    let l = faces::size_of(sizes, x.left);
+    bind(work, scope, x.left, 2 * top);
+    bind(work, scope + 1, x.right, 2 * (top + l));
 }
 
 // Between two subterms: a projection binds the two halves of the first, 1B the whole first.
@@ -201,40 +176,29 @@ fn between(s: &[u8], sizes: &[u8], work: &mut [u16], node: Node, st: State, f: B
     requires { Between sizes.now work.old st f }
     ensures { (result ≡ middle node st f) × (work.new ≡ between_in s.now sizes.now work.old node st f) }
 {
-    let next = f.next;
-    let elements = f.elements;
-    let wires = f.wires;
-    let top = st.top + f.len;
-    let scope = st.scope;
-    let rule = node.rule;
-    match rule {
+    let above = State {
+        next: f.next,
+        elements: f.elements,
+        wires: f.wires,
+        top: st.top + f.len,
+        scope: st.scope,
+    };
+    match node.rule {
         Rule::Projection => {
-            bind_halves(s, sizes, work, f.ty, scope, st.top);
+            bind_halves(s, sizes, work, f.ty, st.scope, st.top);
             State {
-                next,
-                elements,
-                wires,
-                top,
-                scope: scope + 2,
+                scope: st.scope + 2,
+                ..above
             }
         }
         Rule::Naming => {
-            bind(work, scope, f.ty, 2 * st.top);
+            bind(work, st.scope, f.ty, 2 * st.top);
             State {
-                next,
-                elements,
-                wires,
-                top,
-                scope: scope + 1,
+                scope: st.scope + 1,
+                ..above
             }
         }
-        _ => State {
-            next,
-            elements,
-            wires,
-            top,
-            scope,
-        },
+        _ => above,
     }
 }
 
@@ -253,22 +217,24 @@ fn finish(s: &[u8], work: &mut [u16], node: Node, top: usize, f: Built, x: Built
     requires { Finishable work.old node top f x }
     ensures { (result ≡ finished s.now node f x) × (work.new ≡ finished_in work.old node top f x) }
 {
-    let first = node.first;
-    let l = f.len;
-    let of = f.ty;
-    let ty = x.ty;
-    let len = x.len;
-    let wires = x.wires;
-    let rule = node.rule;
-    match rule {
+    match node.rule {
         Rule::Projection | Rule::Naming => {
-            wires::copy(work, STACK + top + l, STACK + top, len);
-            shown_as(x, ty, len, wires)
+            wires::copy(work, STACK + top + f.len, STACK + top, x.len);
+            x
         }
-        Rule::Pair => shown_as(x, first, l + len, wires),
+        Rule::Pair => Built {
+            ty: node.first,
+            len: f.len + x.len,
+            ..x
+        },
         _ => {
-            apply(work, STACK + top, l, len, wires);
-            shown_as(x, records::sides_of(s, of).right, l - len, wires + len)
+            apply(work, STACK + top, f.len, x.len, x.wires);
+            Built {
+                ty: records::sides_of(s, f.ty).right,
+                len: f.len - x.len,
+                wires: x.wires + x.len,
+                ..x
+            }
         }
     }
 }
@@ -290,20 +256,17 @@ pub fn make(s: &[u8], sizes: &[u8], work: &mut [u16], at: usize, st: State) -> B
     requires { Asks s.now sizes.now work.old at st }
     ensures { (q : Asks s.now sizes.now work.old at st) → Leaves q result work.new }
 {
-    let top = st.top;
     let node = records::node_at(s, at);
-    let next = node.next;
     if node.subterms == 0 {
         return leaf(s, sizes, work, node, st);
     }
     let mut state = enter(s, sizes, work, node, st);
-    let f = make(s, sizes, work, next, state);
+    let f = make(s, sizes, work, node.next, state);
     if node.subterms == 1 {
-        let l = state.top - top;
-        return close(work, node, top, l, f);
+        let l = state.top - st.top;
+        return close(work, node, st.top, l, f);
     }
-    let past = f.past;
     state = between(s, sizes, work, node, st, f);
-    let x = make(s, sizes, work, past, state);
-    finish(s, work, node, top, f, x)
+    let x = make(s, sizes, work, f.past, state);
+    finish(s, work, node, st.top, f, x)
 }

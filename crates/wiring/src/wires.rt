@@ -21,15 +21,11 @@ fn link(work: &mut [u16], a: u16, f: u16, count: usize)
     requires { (memory_size ≤ length work.old) × (a < 16384) × (f < 16384) × (count < 5632) }
     ensures { work.new ≡ linked work.old count a f }
 {
-    match netlist::terminal_of(a) {
-        Terminal::Output(from) => match netlist::terminal_of(f) {
-            Terminal::Input(to) => wire(work, from, to, count),
-            Terminal::Output(_) => {}
-        },
-        Terminal::Input(to) => match netlist::terminal_of(f) {
-            Terminal::Output(from) => wire(work, from, to, count),
-            Terminal::Input(_) => {}
-        },
+    match (netlist::terminal_of(a), netlist::terminal_of(f)) {
+        (Terminal::Output(from), Terminal::Input(to)) => wire(work, from, to, count),
+        (Terminal::Input(to), Terminal::Output(from)) => wire(work, from, to, count),
+        (Terminal::Output(_), Terminal::Output(_)) => {}
+        (Terminal::Input(_), Terminal::Input(_)) => {}
     }
 }
 
@@ -38,13 +34,10 @@ pub fn connect(work: &mut [u16], a: usize, f: usize, n: usize, count: usize)
     requires { Apart work.old a f n count }
     ensures { work.new ≡ links work.old count (region work.old a n) (region work.old f n) }
 {
-    let mut left = n;
-    while left > 0 {
-        let i = n - left;
+    for i in 0..n {
         let x = work[a + i];
         let y = work[f + i];
         link(work, x, y, count + i);
-        left = left - 1;
     }
 }
 
@@ -53,12 +46,7 @@ pub fn copy(work: &mut [u16], from: usize, to: usize, n: usize)
     requires { (from + n ≤ length work.old) × (to + n ≤ length work.old) × ((to ≤ from) ⊎ (from + n ≤ to)) }
     ensures { work.new ≡ sets work.old to (region work.old from n) }
 {
-    let mut i: usize = 0;
-    while i < n {
-        let x = work[from + i];
-        work[to + i] = x;
-        i = i + 1;
-    }
+    work.copy_within(from..from + n, to);
 }
 
 // n numbers, all x.
@@ -66,9 +54,5 @@ pub fn fill(work: &mut [u16], to: usize, n: usize, x: u16)
     requires { to + n ≤ length work.old }
     ensures { work.new ≡ sets work.old to (replicate n x) }
 {
-    let mut i: usize = 0;
-    while i < n {
-        work[to + i] = x;
-        i = i + 1;
-    }
+    work[to..to + n].fill(x);
 }

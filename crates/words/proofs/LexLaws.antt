@@ -15,7 +15,9 @@ use Rattle.notation_calculus.specs.Grammar.{peek, behind}
 use Rattle.words.specs.Tables.{token_code, token_value, row_of}
 use Rattle.words.specs.Classes.{SingleSign}
 use Rattle.words.specs.Next.{FoundWord, found_at, run_at, named_at, next_of, Said, told}
-use Rattle.words.specs.Lexed.{lexed, valued, from, Lexed, Stands, Passed}
+use Rattle.words.specs.Lexed.{lexed, valued, from, Lexed, Stands, reason_of, Passed}
+use Rattle.answers.specs.Refusals.{reason_number, refusal_at}
+use Rattle.std.proofs.Common.{Ok, Err}
 use Rattle.laws.proofs.Regions.{drop_past}
 use Rattle.words.proofs.WordLaws.{drop_here, at_front}
 use Rattle.words.proofs.FoundLaws.{run_short, long_rows, long-row, begins-short, sign_told}
@@ -502,6 +504,7 @@ lexed-past text at h = ap (λ (s : List ℕ). passes (words_from (suc (length te
 -- one step of the pass
 pub record Went (text : List ℕ) (at : ℕ) (w : Said) : Type 0 where
   pub bad : 25 < w.code → lexed text at ≡ refuse w.code w.place
+  pub named : 25 < w.code → reason_number (reason_of w.code) ≡ w.code
   pub past : w.code ≤ 25 → at < w.end
   pub on : w.code ≤ 25 → Pending text w.end
 
@@ -509,16 +512,18 @@ module _ (text : List ℕ) (at : ℕ) (p : Pending text at) (more : at < length 
   went-by : (m : Answer FoundWord) → Case text at m → Went text at (told m)
   went-by (good f) (last n h e) = record {
     bad = λ z. absurd (omega arith);
+    named = λ z. absurd (omega arith);
     past = λ z. omega arith;
     on = λ z. record { within = omega arith; same = p.same ∙ ap passes e ∙ sym (lexed-past text n (omega arith)) };
   }
   went-by (good f) (word f' h g c d e) = record {
     bad = λ z. absurd (omega (arith, code_small f'.token));
+    named = λ z. absurd (omega (arith, code_small f'.token));
     past = λ z. h;
     on = λ z. record { within = g; same = p.same ∙ ap passes e ∙ passes-joined f' (lexed text f'.end) };
   }
-  went-by (refused why) (bad31 n e) = record { bad = λ z. e; past = λ z. absurd (omega arith); on = λ z. absurd (omega arith) }
-  went-by (refused why) (bad34 n e) = record { bad = λ z. e; past = λ z. absurd (omega arith); on = λ z. absurd (omega arith) }
+  went-by (refused why) (bad31 n e) = record { bad = λ z. e; named = λ z. refl; past = λ z. absurd (omega arith); on = λ z. absurd (omega arith) }
+  went-by (refused why) (bad34 n e) = record { bad = λ z. e; named = λ z. refl; past = λ z. absurd (omega arith); on = λ z. absurd (omega arith) }
 
   pub went : (w : Said) → w ≡ told (next_of text at) → Went text at w
   went w e = rw e (went-by (next_of text at) (next-case text at p.within))
@@ -531,10 +536,10 @@ good_as : (m : Answer (List Word)) → passes m ≡ good tt → m ≡ good (valu
 good_as (good ws) e = refl
 good_as (refused why) e = absurd (refused≢good e)
 
-pub passed_bad : (text : List ℕ) (at : ℕ) → Pending text at → (n place : ℕ) → 25 < n → lexed text at ≡ refuse n place → Passed text n place
+pub passed_bad : (text : List ℕ) (at : ℕ) → Pending text at → (n place : ℕ) → reason_number (reason_of n) ≡ n → lexed text at ≡ refuse n place → Passed text (Err (refusal_at (reason_of n) place))
 unfolding words lexed
-passed_bad text at p n place h e = ((λ z. absurd (omega arith)), (λ z. refused_as (words_from (suc (length text)) text 0) (numbered n place) (p.same ∙ ap passes e)))
+passed_bad text at p n place h e = refused_as (words_from (suc (length text)) text 0) (numbered n place) (p.same ∙ ap passes e) ∙ ap (λ (k : ℕ). refuse k place) (sym h)
 
-pub passed_good : (text : List ℕ) (at place : ℕ) → Pending text at → length text ≤ at → Passed text 0 place
+pub passed_good : (text : List ℕ) (at : ℕ) → Pending text at → length text ≤ at → Passed text (Ok tt)
 unfolding from
-passed_good text at place p h = ((λ z. record { within = omega arith; words = good_as (lexed text 0) (p.same ∙ lexed-past text at h) }), (λ z. absurd (z refl)))
+passed_good text at p h = record { within = omega arith; words = good_as (lexed text 0) (p.same ∙ lexed-past text at h) }

@@ -1,6 +1,10 @@
 -- The words of a text from an offset on: what later contracts speak of. Assumes nothing.
-use Rattle.std.specs.Prelude.{ℕ, suc, ◌+◌, ◌-◌, ◌≤◌, ◌<◌, ◌≡◌, List, [], length, take, drop}
-use Rattle.calculus.specs.Answer.{Answer, good, refused, refuse}
+use Rattle.std.specs.Prelude.{ℕ, suc, ◌+◌, ◌-◌, ◌≤◌, ◌<◌, ◌≡◌, cond, eqb, Result, Ok, Err, List, [], length, take, drop}
+use Rattle.calculus.specs.Answer.{Answer, good, refused}
+use Rattle.answers.specs.declared.Reason.{Reason}
+use Rattle.answers.specs.declared.Reason.TheVariants.{NoWord, TextLimit}
+use Rattle.answers.specs.declared.Refusal.{Refusal as Why}
+use Rattle.answers.specs.Refusals.{said_why}
 use Rattle.notation_calculus.specs.Words.{name, Word, run, words, words_from}
 use Rattle.notation_calculus.specs.Grammar.{peek, behind}
 use Rattle.words.specs.Tables.{token_code, token_value}
@@ -41,6 +45,11 @@ pub record Stands (text : List ℕ) (at : ℕ) (w : Said) : Type 0 where
   pub long : w.code ≡ 24 → w.place < w.end
   pub begins : from text w.place ≡ from text at
 
--- what the pass over all words says: 0 where they are good, or a refusal's number, and its place
-abbrev pub Passed : List ℕ → ℕ → ℕ → Type 0
-Passed text number place = (number ≡ 0 → Lexed text 0) × (¬ (number ≡ 0) → words text ≡ refuse number place)
+-- why a word is refused, by its code
+abbrev pub reason_of : ℕ → Reason
+reason_of kind = cond (eqb kind 34) TextLimit NoWord
+
+-- what the pass over all words says: they are good, or a refusal
+abbrev pub Passed : List ℕ → Result (Unit {0}) Why → Type 0
+Passed text (Ok done) = Lexed text 0
+Passed text (Err why) = words text ≡ refused (said_why why)

@@ -18,15 +18,13 @@ pub fn name_key(text: &[u8], from: usize) -> u32
     requires { from ≤ length text.now }
     ensures { (result ≡ name_key (run_at text.now from)) × (result < 32768) }
 {
-    let mut at = from;
     let mut h: u32 = 0;
-    while at < text.len() {
+    for at in from..text.len() {
         let c = text[at];
         if !in_name(c) {
             return h;
         }
         h = more_key(h, c);
-        at = at + 1;
     }
     h
 }

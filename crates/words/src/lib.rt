@@ -8,7 +8,9 @@ ghost use Rattle.words.specs.Steps.{CommentTo, StepTo};
 ghost use Rattle.words.specs.Classes.{ClassIs, SignCode, NotListed, NoSingle, PlainLetter};
 ghost use Rattle.words.specs.Next.{goes_on_lem, run_at, found_at, named_at, next_of, said_word, told};
 ghost use Rattle.words.specs.Digits.{DigitsAt};
-ghost use Rattle.words.specs.Lexed.{Lexed, Stands, Passed};
+ghost use Rattle.words.specs.Lexed.{Lexed, Stands, reason_of, Passed};
+
+use answers::{Reason, Refusal};
 
 pub mod keys;
 pub mod marks;
@@ -90,14 +92,12 @@ pub fn run_end(text: &[u8], from: usize) -> usize
     requires { from ≤ length text.now }
     ensures { result ≡ from + run (drop from text.now) }
 {
-    let mut at = from;
-    while at < text.len() {
+    for at in from..text.len() {
         if !in_name(text[at]) {
             return at;
         }
-        at = at + 1;
     }
-    at
+    text.len()
 }
 
 // Behind the blanks at an offset.
@@ -105,14 +105,12 @@ fn blanks_end(text: &[u8], from: usize) -> usize
     requires { from ≤ length text.now }
     ensures { (from ≤ result) × ((result ≤ length text.now) × (result + gap false (drop result text.now) ≡ from + gap false (drop from text.now))) }
 {
-    let mut at = from;
-    while at < text.len() {
+    for at in from..text.len() {
         if !blank(text[at]) {
             return at;
         }
-        at = at + 1;
     }
-    at
+    text.len()
 }
 
 // Two dashes stand here, which begin a comment.
@@ -131,14 +129,12 @@ fn comment_end(text: &[u8], from: usize) -> usize
     requires { from ≤ length text.now }
     ensures { CommentTo text.now from result }
 {
-    let mut at = from;
-    while at < text.len() {
+    for at in from..text.len() {
         if ends_line(text[at]) {
             return at + 1;
         }
-        at = at + 1;
     }
-    at
+    text.len()
 }
 
 // The class of a byte that `class` does not name.
@@ -205,6 +201,8 @@ pub const NAME: u8 = 24;
 // The sign `^`, whose code is the last of those that stand for words.
 pub const POWER: u8 = 25;
 
+// A word's code is a number, and no enum: the definitions (`sign_code` of notation_calculus, `token_code`) and the proofs of all readers compare these
+// numbers, and the bytes of a text give them by a table.
 // A word: its code (a sign's own, or that of a part, a number or a name; or the number of a refusal), the number that it holds, its place, and the
 // offset behind it.
 #[derive(Clone, Copy)]
@@ -232,14 +230,12 @@ fn zeros_end(text: &[u8], start: usize) -> usize
     requires { start ≤ length text.now }
     ensures { (result + run (drop result text.now) ≡ start + run (drop start text.now)) × (DigitsAt text.now start (start + run (drop start text.now)) 0 result) }
 {
-    let mut at = start;
-    while at < text.len() {
+    for at in start..text.len() {
         if text[at] != 48 {
             return at;
         }
-        at = at + 1;
     }
-    at
+    text.len()
 }
 
 // A run that begins with a digit: 31 if it is no number, 34 if it is above 255.
@@ -250,8 +246,7 @@ fn number_at(text: &[u8], start: usize) -> Word
     let first = zeros_end(text, start);
     let end = run_end(text, first);
     let mut value: u16 = 0;
-    let mut at = first;
-    while at < end {
+    for at in first..end {
         let c = text[at];
         if !digit(c) {
             return Word {
@@ -262,7 +257,6 @@ fn number_at(text: &[u8], start: usize) -> Word
             };
         }
         value = more_digits(value, c);
-        at = at + 1;
     }
     if 255 < value {
         return Word {
@@ -451,30 +445,27 @@ fn goes_on(text: &[u8], at: usize) -> bool
     in_name(text[at])
 }
 
-// A refusal's number, 0 for none, and its place.
-#[derive(Clone, Copy)]
-pub struct Refused {
-    pub number: u8,
-    pub place: usize,
+// Why a word is refused, by its code.
+fn reason(kind: u8) -> Reason
+    ensures { result ≡ reason_of kind }
+{
+    if kind == 34 {
+        return Reason::TextLimit;
+    }
+    Reason::NoWord
 }
 
 // The pass over all words: 31, and a number's 34.
-pub fn check_words(text: &[u8]) -> Refused
-    ensures { Passed text.now result.number result.place }
+pub fn check_words(text: &[u8]) -> Result<(), Refusal>
+    ensures { Passed text.now result }
 {
     let mut at: usize = 0;
     while at < text.len() {
         let w = next(text, at);
         if POWER < w.kind {
-            return Refused {
-                number: w.kind,
-                place: w.start,
-            };
+            return Err(reason(w.kind).at(w.start));
         }
         at = w.end;
     }
-    Refused {
-        number: 0,
-        place: 0,
-    }
+    Ok(())
 }

@@ -52,13 +52,13 @@ fn bytes_same(text: &[u8], a: usize, b: usize, n: usize) -> bool
     requires { BothInside text.now a b n }
     ensures { result ≡ same_name (take n (drop a text.now)) (take n (drop b text.now)) }
 {
-    let mut i: usize = 0;
-    while 8 <= n - i {
-        if key8(text, a + i) != key8(text, b + i) {
+    let whole = n / 8;
+    for k in 0..whole {
+        if key8(text, a + 8 * k) != key8(text, b + 8 * k) {
             return false;
         }
-        i = i + 8;
     }
+    let i = 8 * whole;
     rest_same(text, a + i, b + i, n - i)
 }
 

@@ -18,16 +18,16 @@ pub returns-then-out-n : goal.returns-then-out-n
 returns-then-out-n c =
     let a = c.args in
     let n = c.length-n in
-    rw c.refused.ensures (says_short (back_sheet (net_here a.net.now)) a.out.now n.result (n.ensures ∙ sheet-length a.net.now a.parts a.counts.undriven a.counts.inputs c.requires.0 c.requires.1.all) c.if-out-n.true)
+    rw c.at.ensures (says_short (back_sheet (net_here a.net.now)) a.out.now n.result (n.ensures ∙ sheet-length a.net.now a.parts.count a.counts.undriven a.counts.inputs c.requires.0 c.requires.1.all) c.if-out-n.true)
 
 pub sheet-requires : goal.sheet-requires
 sheet-requires c =
     let a = c.args in
-    let e = c.length-n.ensures ∙ sheet-length a.net.now a.parts a.counts.undriven a.counts.inputs c.requires.0 c.requires.1.all in
+    let e = c.length-n.ensures ∙ sheet-length a.net.now a.parts.count a.counts.undriven a.counts.inputs c.requires.0 c.requires.1.all in
     record { limited = c.requires.0; behind = c.requires.2; fits = omega arith }
 
 pub returns : goal.returns
 returns c =
     let a = c.args in
-    let e = c.length-n.ensures ∙ sheet-length a.net.now a.parts a.counts.undriven a.counts.inputs c.requires.0 c.requires.1.all in
+    let e = c.length-n.ensures ∙ sheet-length a.net.now a.parts.count a.counts.undriven a.counts.inputs c.requires.0 c.requires.1.all in
     says_fits (back_sheet (net_here a.net.now)) a.out.now c.length-n.result _ (omega arith) e c.sheet.ensures

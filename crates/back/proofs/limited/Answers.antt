@@ -7,23 +7,18 @@ use Rattle.back.proofs.limited.Goals as goal
 pub returns-then-parts-eq0 : goal.returns-then-parts-eq0
 returns-then-parts-eq0 c =
     let n = c.requires.0.count in
-    rw c.refused.ensures (says_none (net_here c.args.net.now) c.args.out.now (omega arith))
+    rw c.at.ensures (says_none (net_here c.args.net.now) c.args.out.now (omega arith))
 
 pub returns-then-parts-gt16 : goal.returns-then-parts-gt16
 returns-then-parts-gt16 c =
     let n = c.requires.0.count in
-    rw c.refused-then-parts-gt16.ensures (says-many (net_here c.args.net.now) c.args.out.now (omega arith))
+    rw c.at-then-parts-gt16.ensures (says-many (net_here c.args.net.now) c.args.out.now (omega arith))
 
 pub returns-then-counts-gt24 : goal.returns-then-counts-gt24
 returns-then-counts-gt24 c =
     let n = c.requires.0.count in
     let u = c.count_inputs-counts.ensures.undriven in
-    rw c.refused-then-counts-gt24.ensures (says-open (net_here c.args.net.now) c.args.out.now (omega arith) (omega arith) (omega arith))
-
-pub fitted-requires : goal.fitted-requires
-fitted-requires c =
-    let k = c.count_inputs-counts.ensures in
-    (record { of = c.requires.0; some = omega arith; most = omega arith; undriven = k.undriven; few = omega arith }, k, c.requires.1)
+    rw c.at-then-counts-gt24.ensures (says-open (net_here c.args.net.now) c.args.out.now (omega arith) (omega arith) (omega arith))
 
 pub returns : goal.returns
 returns c =

@@ -4,12 +4,12 @@ use lib.Seq.{length-take-le}
 use Rattle.translation.proofs.Written.{written-within}
 use Rattle.corpus.proofs.call.Goals as goal
 
-pub slice_bounds-fill_out-end : goal.slice_bounds-fill_out-end
-slice_bounds-fill_out-end c =
+pub slice_bounds-fill-end : goal.slice_bounds-fill-end
+slice_bounds-fill-end c =
     let r = c.translate in
-    written-within r.result _ _ _ _ _ _ _ _ r.ensures c.in-Written.is
+    written-within r.result _ _ _ _ _ _ _ _ r.ensures c.in-Ok.is
 
-pub slice_bounds-fill_out-end-in-Written : goal.slice_bounds-fill_out-end-in-Written
-slice_bounds-fill_out-end-in-Written c =
+pub slice_bounds-fill-end-in-Ok : goal.slice_bounds-fill-end-in-Ok
+slice_bounds-fill-end-in-Ok c =
     let r = c.translate in
-    sym (length-take-le _ _ (written-within r.result _ _ _ _ _ _ _ _ r.ensures c.in-Written.is))
+    sym (length-take-le _ _ (written-within r.result _ _ _ _ _ _ _ _ r.ensures c.in-Ok.is))

@@ -11,7 +11,7 @@ use Rattle.foreign.proofs.check.Goals as goal
 pub returns-then-work-lt-SIZE : goal.returns-then-work-lt-SIZE
 returns-then-work-lt-SIZE c =
     let a = c.args in
-    called_1 a.lean a.net.now a.work.now (omega arith)
+    rw c.at.ensures (called_1 a.lean a.net.now a.work.now (omega arith))
 
 pub judge-r-requires : goal.judge-r-requires
 judge-r-requires c =

@@ -13,9 +13,6 @@ started c =
     let a = c.args in
     begun a.work.now c.blank.new.work a.elements a.wires a.pins c.requires c.blank.ensures c.start-end.new.work c.start-end.result c.start-end.ensures
 
-pub blank-requires : goal.blank-requires
-blank-requires c = c.requires.size
-
 pub start-end-requires : goal.start-end-requires
 start-end-requires c =
     let a = c.args in
@@ -26,16 +23,13 @@ start-end-requires c =
 pub loop-n-init : goal.loop-n-init
 loop-n-init c =
     let s = started (goal.at.loop-n-init c).After-start-end in
-    ((omega arith, s.low), (within_none _, (s.partly, λ x h. absurd (omega arith))))
-
-pub root_one-requires : goal.root_one-requires
-root_one-requires c = let l = c.loop-n in (l.invariant.1.1.0, let h = c.loop-n-test.true in omega (arith, l.invariant.0.1))
+    (s.low, (within_none _, (s.partly, λ x h. absurd (omega arith))))
 
 pub loop-n-preserved : goal.loop-n-preserved
 loop-n-preserved c =
     let l = c.loop-n in
     let e = c.root_one.ensures in
-    ((omega arith, l.invariant.0.1), (within_then l.invariant.1.0 e.within, (e.partly, below_more _ _ (λ x h. e.still x (l.invariant.1.1.1 x h)) e.done)))
+    (l.invariant.0, (within_then l.invariant.1.0 e.within, (e.partly, below_more _ _ (λ x h. e.still x (l.invariant.1.1.1 x h)) e.done)))
 
 pub shape_of-work : goal.shape_of-work
 shape_of-work c = (within_then (started (goal.at.shape_of-work c).After-start-end).within c.loop-n.invariant.1.0).size

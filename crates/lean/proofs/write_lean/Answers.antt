@@ -24,10 +24,6 @@ put_pins-requires c =
           (omega (arith, fits a.plain a.work.now a.end a.pins c.requires.0 (drop makers_at a.work.now) (length a.out.now) c.requires.1, c.put_elements-first.ensures.0, c.put_wires-second.ensures.0)),
     )
 
-pub shape_of-out : goal.shape_of-out
-shape_of-out c =
-    c.put_pins.auto.out ∙ c.put_wires-second.auto.out ∙ c.put_elements-first.auto.out
-
 pub returns : goal.returns
 returns c =
     let a = c.args in

@@ -17,53 +17,11 @@ bounds-net-at c =
     let some : size_at a.net.now a.at ≡ 0 → ⊥ = λ e. c.if-size_at-eq0.false (c.size_at.ensures ∙ e) in
     below a.net.now a.at some
 
-pub overflow_add-at : goal.overflow_add-at
-overflow_add-at c =
-    let a = c.args in
-    let some : size_at a.net.now a.at ≡ 0 → ⊥ = λ e. c.if-size_at-eq0.false (c.size_at.ensures ∙ e) in
-    let r = room a.net.now a.at 0x21 some c.in-33.is in
-    omega arith
-
-pub overflow_add-at-in-34 : goal.overflow_add-at-in-34
-overflow_add-at-in-34 c =
-    let a = c.args in
-    let some : size_at a.net.now a.at ≡ 0 → ⊥ = λ e. c.if-size_at-eq0.false (c.size_at.ensures ∙ e) in
-    let r = room a.net.now a.at 0x22 some c.in-34.is in
-    omega arith
-
 pub bounds-net-at-in-34 : goal.bounds-net-at-in-34
 bounds-net-at-in-34 c =
     let a = c.args in
     let some : size_at a.net.now a.at ≡ 0 → ⊥ = λ e. c.if-size_at-eq0.false (c.size_at.ensures ∙ e) in
     let r = room a.net.now a.at 0x22 some c.in-34.is in
-    omega arith
-
-pub overflow_add-at-in-34-2 : goal.overflow_add-at-in-34-2
-overflow_add-at-in-34-2 c =
-    let a = c.args in
-    let some : size_at a.net.now a.at ≡ 0 → ⊥ = λ e. c.if-size_at-eq0.false (c.size_at.ensures ∙ e) in
-    let r = room a.net.now a.at 0x22 some c.in-34.is in
-    omega arith
-
-pub overflow_add-at-in-35 : goal.overflow_add-at-in-35
-overflow_add-at-in-35 c =
-    let a = c.args in
-    let some : size_at a.net.now a.at ≡ 0 → ⊥ = λ e. c.if-size_at-eq0.false (c.size_at.ensures ∙ e) in
-    let r = room a.net.now a.at 0x23 some c.in-35.is in
-    omega arith
-
-pub overflow_add-at-in-35-2 : goal.overflow_add-at-in-35-2
-overflow_add-at-in-35-2 c =
-    let a = c.args in
-    let some : size_at a.net.now a.at ≡ 0 → ⊥ = λ e. c.if-size_at-eq0.false (c.size_at.ensures ∙ e) in
-    let r = room a.net.now a.at 0x23 some c.in-35.is in
-    omega arith
-
-pub overflow_add-at-in-36 : goal.overflow_add-at-in-36
-overflow_add-at-in-36 c =
-    let a = c.args in
-    let some : size_at a.net.now a.at ≡ 0 → ⊥ = λ e. c.if-size_at-eq0.false (c.size_at.ensures ∙ e) in
-    let r = room a.net.now a.at 0x24 some c.in-36.is in
     omega arith
 
 pub number_at-requires : goal.number_at-requires

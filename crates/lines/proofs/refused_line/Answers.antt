@@ -5,7 +5,6 @@ use mathlib.Core.List.{[], ◌∷◌}
 use Rattle.lines.proofs.Decimal.{figure-few}
 use Rattle.lines.proofs.Stores.{wrote-two}
 use Rattle.lines.proofs.Texts.{refused_text_lem}
-use lib.ListN.{length-set}
 use Rattle.lines.proofs.refused_line.Goals as goal
 
 pub put_field-end-requires : goal.put_field-end-requires
@@ -29,11 +28,6 @@ overflow_add-result c =
     let number = c.put_field-second in
     let place = c.put_field-end in
     record { fits = omega (arith, word.ensures.offset, number.ensures.offset, place.ensures.offset, figure-few a.number, figure-few a.place) }
-
-pub shape_of-text : goal.shape_of-text
-shape_of-text c =
-    let place = c.put_field-end in
-    omega (arith, length-set place.new.text place.result 10, place.auto.text, c.put_field-second.auto.text, c.put_word-first.auto.text)
 
 pub returns : goal.returns
 returns c =

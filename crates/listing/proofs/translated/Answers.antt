@@ -7,9 +7,9 @@ use Rattle.listing.proofs.translated.Goals as goal
 pub slice_bounds-netlist-end : goal.slice_bounds-netlist-end
 slice_bounds-netlist-end c =
     let r = c.translate in
-    written-within r.result _ _ _ _ _ _ _ _ r.ensures c.in-Written.is
+    written-within r.result _ _ _ _ _ _ _ _ r.ensures c.in-Ok.is
 
-pub slice_bounds-netlist-end-in-Written : goal.slice_bounds-netlist-end-in-Written
-slice_bounds-netlist-end-in-Written c =
+pub slice_bounds-netlist-end-in-Ok : goal.slice_bounds-netlist-end-in-Ok
+slice_bounds-netlist-end-in-Ok c =
     let r = c.translate in
-    sym (length-take-le _ _ (written-within r.result _ _ _ _ _ _ _ _ r.ensures c.in-Written.is))
+    sym (length-take-le _ _ (written-within r.result _ _ _ _ _ _ _ _ r.ensures c.in-Ok.is))

@@ -1,28 +1,25 @@
 -- 30, the words, the clauses, and then the term. Assumes nothing.
 use native.Mathlib.Omega.{arith}
-use Rattle.maker.proofs.MadeLaws.{made-long, made-words, made-lexed, made-clauses, made-can, made-text}
+use Rattle.answers.proofs.Passed.{passed}
+use Rattle.maker.proofs.MadeLaws.{made-long, made-words, made-clauses, made-can, made-text}
 use Rattle.maker.proofs.made.Goals as goal
 
 pub returns-then-text-gt65535 : goal.returns-then-text-gt65535
 returns-then-text-gt65535 c =
-    made-long c.args.text.now c.args.work.now (omega arith)
+    rw c.at.ensures (made-long c.args.text.now c.args.work.now (omega arith))
 
-pub returns-then-c-ne0 : goal.returns-then-c-ne0
-returns-then-c-ne0 c =
-    made-words c.args.text.now c.args.work.now (omega arith) c.check_words-c.result.number c.check_words-c.result.place c.check_words-c.ensures c.if-c-ne0.true
+pub returns-in_err-check_words : goal.returns-in_err-check_words
+returns-in_err-check_words c =
+    rw (passed c.from_residual.result c.from_residual.ensures.1) (made-words c.args.text.now c.args.work.now (omega arith) _ c.in_err-check_words.ensures)
 
-pub read-r-requires : goal.read-r-requires
-read-r-requires c =
-    (made-lexed c.args.text.now c.args.work.now (omega arith) c.check_words-c.result.number c.check_words-c.result.place c.check_words-c.ensures c.if-c-ne0.false, (omega arith, c.requires))
-
-pub returns-then-r-ne0 : goal.returns-then-r-ne0
-returns-then-r-ne0 c =
-    made-clauses c.args.text.now c.args.work.now (omega arith) c.check_words-c.result.number c.check_words-c.result.place c.check_words-c.ensures c.if-c-ne0.false c.read-r.result _ c.read-r.ensures c.if-r-ne0.true
+pub returns-in_err-r : goal.returns-in_err-r
+returns-in_err-r c =
+    rw (passed c.from_residual-in_err-r.result c.from_residual-in_err-r.ensures.1) (made-clauses c.args.text.now c.args.work.now (omega arith) c.in_ok-check_words.ensures _ _ c.in_err-r.ensures)
 
 pub text_term-requires : goal.text_term-requires
 text_term-requires c =
-    made-can c.args.text.now c.args.work.now (omega arith) c.check_words-c.result.number c.check_words-c.result.place c.check_words-c.ensures c.if-c-ne0.false c.read-r.result _ c.read-r.ensures c.if-r-ne0.false c.requires
+    made-can c.args.text.now c.args.work.now (omega arith) c.in_ok-check_words.ensures _ _ c.in_ok-r.ensures c.requires
 
 pub returns : goal.returns
 returns c =
-    made-text c.args.text.now c.args.work.now (omega arith) c.check_words-c.result.number c.check_words-c.result.place c.check_words-c.ensures c.if-c-ne0.false c.read-r.result _ c.read-r.ensures c.if-r-ne0.false c.requires c.text_term.result _ c.text_term.ensures
+    made-text c.args.text.now c.args.work.now (omega arith) c.in_ok-check_words.ensures _ _ c.in_ok-r.ensures c.requires c.text_term.result _ c.text_term.ensures

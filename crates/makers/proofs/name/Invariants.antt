@@ -1,5 +1,4 @@
 -- The invariant: the elements of the first k nodes are named, and node k's record stands at the offset. Assumes nothing.
-use Prim.Native.Nat.{◌-◌, ◌≤◌}
 use mathlib.Core.Path.{◌≡◌}
 use lib.ListN.{length}
 use Rattle.makers.specs.Naming.{Nameable}
@@ -8,7 +7,4 @@ use Rattle.makers.proofs.name.Given as goal
 
 abbrev pub invariant-loop-k : goal.invariant-loop-k
 invariant-loop-k l =
-    (l.k ≤ l.nodes) × (length l.work ≡ length l.initial.work) × ((q : Nameable l.s l.sizes l.initial.work l.from l.nodes) → NamedSoFar l.s l.sizes l.initial.work l.from l.nodes q l.work l.at l.to l.k)
-
-abbrev pub decreases-loop-k : goal.decreases-loop-k
-decreases-loop-k l = l.nodes - l.k
+    (length l.work ≡ length l.initial.work) × ((q : Nameable l.s l.sizes l.initial.work l.from l.nodes) → NamedSoFar l.s l.sizes l.initial.work l.from l.nodes q l.work l.at l.to l.k)

@@ -10,15 +10,14 @@ use Rattle.makers.proofs.NameLaws.{run_more}
 use Rattle.makers.proofs.name_own.Goals as goal
 
 pub loop-i-init : goal.loop-i-init
-loop-i-init c = (omega arith, refl, refl)
+loop-i-init c = (refl, refl)
 
 pub loop-i-preserved : goal.loop-i-preserved
 loop-i-preserved c =
     let a = c.args in
     let l = c.loop-i in (
-      omega arith,
       simp length-set (omega arith),
-      ap (λ (x : List ℕ). set x (a.to + l.i) a.node) l.invariant.2 ∙ run_more a.work.now a.to l.i a.node,
+      ap (λ (x : List ℕ). set x (a.to + l.i) a.node) l.invariant.1 ∙ run_more a.work.now a.to l.i a.node,
     )
 
 pub returns : goal.returns
@@ -26,4 +25,4 @@ returns c =
     let a = c.args in
     let l = c.loop-i in
     let e : l.i ≡ a.count = omega arith in
-    l.invariant.2 ∙ ap (λ (j : ℕ). sets a.work.now a.to (replicate j a.node)) e
+    l.invariant.1 ∙ ap (λ (j : ℕ). sets a.work.now a.to (replicate j a.node)) e

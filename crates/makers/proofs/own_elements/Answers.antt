@@ -14,7 +14,7 @@ unfolding elements_made
 returns-then-node-eq1 c =
     let a = c.args in
     rw (not_constant a.node.rule (opened c.in_default.in_default-own.keys2), eq-eqb _ _ c.if-node-eq1.true)
-    (c.wide-then-node-eq1.ensures ∙ ap (λ (k : ℕ). get_or a.sizes.now k 0) (c.wide.ensures ∙ c.bound_by.ensures))
+    (c.from-then-node-eq1.ensures ∙ ap (λ (k : ℕ). get_or a.sizes.now k 0) (c.from.ensures ∙ c.bound_by.ensures))
 
 pub returns-in-Constant : goal.returns-in-Constant
 unfolding elements_made

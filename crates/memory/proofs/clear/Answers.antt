@@ -1,25 +1,15 @@
--- The invariant: the numbers before i are 0, and the others as they were.
-use Rattle.memory.proofs.Zeroed.{zeroed-none, zeroed-more}
-use native.Mathlib.Omega.{arith}
-use mathlib.Core.Path.{◌≡◌, refl, ◌∙◌, ap}
-use mathlib.Core.List.{List}
+-- The first numbers are filled, and the others stay.
+use mathlib.Core.Path.{ap, ◌∙◌}
+use mathlib.Core.List.{List, ◌++◌}
 use Prim.Native.Nat.{ℕ}
-use lib.ListN.{set, length-set}
+use lib.ListN.{drop, replicate}
+use lib.Seq.{length-take-le}
 use Rattle.calculus.specs.Translate.{zeroed}
 use Rattle.memory.specs.Map.{memory_size}
 use Rattle.memory.proofs.clear.Goals as goal
 
-pub loop-i-init : goal.loop-i-init
-loop-i-init c = (omega arith, (refl, zeroed-none _))
-
-pub loop-i-preserved : goal.loop-i-preserved
-loop-i-preserved c =
-    let l = c.loop-i in
-    let w = c.args.work.now in
-    (omega arith, (simp length-set (omega arith), ap (λ (x : List ℕ). set x l.i 0) l.invariant.1.1 ∙ zeroed-more l.i w (omega arith)))
-
 pub returns : goal.returns
+unfolding zeroed
 returns c =
-    let l = c.loop-i in
-    let e : l.i ≡ memory_size = omega arith in
-    l.invariant.1.1 ∙ ap (λ (k : ℕ). zeroed k c.args.work.now) e
+    let w = c.args.work.now in
+    ap (λ (x : List ℕ). x ++ drop memory_size w) (c.fill.ensures.after (λ y h. h) ∙ ap (λ (n : ℕ). replicate n 0) (length-take-le memory_size w c.requires))

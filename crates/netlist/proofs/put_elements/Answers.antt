@@ -1,6 +1,6 @@
 -- The invariant: the output holds the records of the first i elements, and n is the next free terminal. Assumes nothing.
 use native.Mathlib.Omega.{arith}
-use mathlib.Core.Path.{◌≡◌, refl, sym, ◌∙◌}
+use mathlib.Core.Path.{◌≡◌, sym, ◌∙◌}
 use Prim.Native.Nat.{◌<◌, ◌+◌}
 use lib.ListN.{length, drop}
 use Rattle.memory.specs.Map.{elements_at, makers_at}
@@ -8,9 +8,6 @@ use Rattle.netlist.proofs.Records.{record_more}
 use Rattle.netlist.proofs.Elements.{first_records, node-more, node-within}
 use Rattle.netlist.proofs.InMemory.{record_next, records-before, element_length, element_after, element_fits, after-fits}
 use Rattle.netlist.proofs.put_elements.Goals as goal
-
-pub loop-i-init : goal.loop-i-init
-loop-i-init c = (omega arith, (omega arith, (refl, (refl, refl))))
 
 pub put_element-at-requires : goal.put_element-at-requires
 put_element-at-requires c =
@@ -44,16 +41,13 @@ loop-i-preserved c =
     let here = records-before a.plain w elements_at makers_at l.i (omega arith) in
     let next = records-before a.plain w elements_at makers_at (l.i + 1) (omega arith) in
     let one = node-more a.plain l.i in
-    let more = record_more a.out.now (first_records a.plain (drop elements_at w) (drop makers_at w) l.i) _ _ a.from l.at l.invariant.1.0 (record_next a.plain w elements_at makers_at l.i lt ml) in (
-      omega arith,
+    let more = record_more a.out.now (first_records a.plain (drop elements_at w) (drop makers_at w) l.i) _ _ a.from l.at l.invariant.0 (record_next a.plain w elements_at makers_at l.i lt ml) in (
+      omega (arith, put.ensures.0),
       (
-        omega (arith, put.ensures.0),
+        c.next_after-n.ensures ∙ rw l.invariant.1.0 (sym (element_after w elements_at l.i lt)),
         (
-          c.next_after-n.ensures ∙ rw l.invariant.1.1.0 (sym (element_after w elements_at l.i lt)),
-          (
-            put.auto.out ∙ l.invariant.1.1.1.0,
-            put.ensures.1 ∙ rw (l.invariant.1.1.1.1, l.invariant.1.1.0) more,
-          ),
+          put.auto.out ∙ l.invariant.1.1.0,
+          put.ensures.1 ∙ rw (l.invariant.1.1.1, l.invariant.1.0) more,
         ),
       ),
     )
@@ -62,4 +56,4 @@ pub returns : goal.returns
 returns c =
     let l = c.loop-i in
     let n : l.i ≡ c.args.elements = omega arith in
-    rw (← n) (l.invariant.1.0, l.invariant.1.1.1.1)
+    rw (← n) (l.invariant.0, l.invariant.1.1.1)

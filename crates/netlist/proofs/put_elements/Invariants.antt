@@ -1,6 +1,6 @@
 -- The invariant: the output holds the records of the first i elements, and n is the next free terminal. Assumes nothing.
 use mathlib.Core.Path.{◌≡◌}
-use Prim.Native.Nat.{◌≤◌, ◌-◌, ◌+◌}
+use Prim.Native.Nat.{◌+◌}
 use lib.ListN.{length, drop}
 use lib.Seq.{sets}
 use Rattle.memory.specs.Map.{elements_at, makers_at}
@@ -9,9 +9,5 @@ use Rattle.netlist.proofs.put_elements.Given as goal
 
 abbrev pub invariant-loop-i : goal.invariant-loop-i
 invariant-loop-i l =
-    (l.i ≤ l.elements)
-    × ((l.at ≡ l.from + length (first_records l.plain (drop elements_at l.work) (drop makers_at l.work) l.i))
-    × ((l.n ≡ first_after (drop elements_at l.work) l.i) × ((length l.out ≡ length l.initial.out) × (l.out ≡ sets l.initial.out l.from (first_records l.plain (drop elements_at l.work) (drop makers_at l.work) l.i)))))
-
-abbrev pub decreases-loop-i : goal.decreases-loop-i
-decreases-loop-i l = l.elements - l.i
+    (l.at ≡ l.from + length (first_records l.plain (drop elements_at l.work) (drop makers_at l.work) l.i))
+    × ((l.n ≡ first_after (drop elements_at l.work) l.i) × ((length l.out ≡ length l.initial.out) × (l.out ≡ sets l.initial.out l.from (first_records l.plain (drop elements_at l.work) (drop makers_at l.work) l.i))))

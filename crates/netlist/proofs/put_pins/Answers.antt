@@ -1,15 +1,12 @@
 -- The invariant: the output holds the records of the first i pins. Assumes nothing.
 use native.Mathlib.Omega.{arith}
-use mathlib.Core.Path.{◌≡◌, refl, ◌∙◌}
+use mathlib.Core.Path.{◌∙◌}
 use mathlib.Core.List.{map}
 use Rattle.calculus.specs.Net.{pin_bytes}
 use Rattle.memory.specs.Map.{stack_at, region, terminal_of}
 use Rattle.netlist.proofs.Records.{record_more}
 use Rattle.netlist.proofs.InMemory.{pins_more, pins_first}
 use Rattle.netlist.proofs.put_pins.Goals as goal
-
-pub loop-i-init : goal.loop-i-init
-loop-i-init c = (omega arith, (omega arith, (refl, refl)))
 
 pub loop-i-preserved : goal.loop-i-preserved
 loop-i-preserved c =
@@ -19,18 +16,9 @@ loop-i-preserved c =
     let w = a.work.now in
     let n = pins_first w stack_at l.i (omega arith) in
     let more = record_more a.out.now (pin_bytes (map terminal_of (region w stack_at l.i))) _ _ a.from l.at (omega arith) (pins_more w stack_at l.i (omega arith)) in (
-      omega arith,
+      omega (arith, put.ensures.0),
       (
-        omega (arith, put.ensures.0),
-        (
-          put.auto.out ∙ l.invariant.1.1.0,
-          put.ensures.1 ∙ rw (l.invariant.1.1.1, c.terminal_of.ensures) more,
-        ),
+        put.auto.out ∙ l.invariant.1.0,
+        put.ensures.1 ∙ rw (l.invariant.1.1, c.terminal_of.ensures) more,
       ),
     )
-
-pub returns : goal.returns
-returns c =
-    let l = c.loop-i in
-    let n : l.i ≡ c.args.pins = omega arith in
-    rw (← n) (l.invariant.1.0, l.invariant.1.1.1)

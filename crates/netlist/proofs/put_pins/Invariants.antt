@@ -1,6 +1,6 @@
 -- The invariant: the output holds the records of the first i pins. Assumes nothing.
 use mathlib.Core.Path.{◌≡◌}
-use Prim.Native.Nat.{◌≤◌, ◌-◌, ◌+◌, ◌*◌}
+use Prim.Native.Nat.{◌+◌, ◌*◌}
 use mathlib.Core.List.{map}
 use lib.ListN.{length}
 use lib.Seq.{sets}
@@ -10,8 +10,5 @@ use Rattle.netlist.proofs.put_pins.Given as goal
 
 abbrev pub invariant-loop-i : goal.invariant-loop-i
 invariant-loop-i l =
-    (l.i ≤ l.pins)
-    × ((l.at ≡ l.from + 3 * l.i) × ((length l.out ≡ length l.initial.out) × (l.out ≡ sets l.initial.out l.from (pin_bytes (map terminal_of (region l.work stack_at l.i))))))
-
-abbrev pub decreases-loop-i : goal.decreases-loop-i
-decreases-loop-i l = l.pins - l.i
+    (l.at ≡ l.from + 3 * l.i)
+    × ((length l.out ≡ length l.initial.out) × (l.out ≡ sets l.initial.out l.from (pin_bytes (map terminal_of (region l.work stack_at l.i)))))

@@ -1,6 +1,6 @@
 -- The invariant: the output holds the records of the first i wires. Assumes nothing.
 use mathlib.Core.Path.{◌≡◌}
-use Prim.Native.Nat.{◌≤◌, ◌-◌, ◌+◌, ◌*◌}
+use Prim.Native.Nat.{◌+◌, ◌*◌}
 use lib.ListN.{length}
 use lib.Seq.{sets}
 use Rattle.calculus.specs.Net.{wire_bytes}
@@ -9,8 +9,5 @@ use Rattle.netlist.proofs.put_wires.Given as goal
 
 abbrev pub invariant-loop-i : goal.invariant-loop-i
 invariant-loop-i l =
-    (l.i ≤ l.wires)
-    × ((l.at ≡ l.from + 5 * l.i) × ((length l.out ≡ length l.initial.out) × (l.out ≡ sets l.initial.out l.from (wire_bytes (wires_from l.work (region l.work targets_at l.i))))))
-
-abbrev pub decreases-loop-i : goal.decreases-loop-i
-decreases-loop-i l = l.wires - l.i
+    (l.at ≡ l.from + 5 * l.i)
+    × ((length l.out ≡ length l.initial.out) × (l.out ≡ sets l.initial.out l.from (wire_bytes (wires_from l.work (region l.work targets_at l.i)))))

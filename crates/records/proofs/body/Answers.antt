@@ -1,5 +1,4 @@
 -- `records::body` meets its contract: a byte within the body is read, and past it stands 0. Assumes nothing.
-use borrow.Author.Rules.{rules}
 use mathlib.Core.Path.{sym}
 use lib.Seq.{get_or-drop, get_or-take}
 use native.Mathlib.Omega.{arith}

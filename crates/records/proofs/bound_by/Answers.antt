@@ -3,7 +3,6 @@ use mathlib.Core.Path.{ap}
 use Rattle.records.specs.TypeNumbers.{sided_of}
 use Rattle.records.specs.declared.Sided.{Sided}
 use Rattle.records.proofs.RuleLaws.{not_fixed_point}
-use borrow.Author.Rules.{rules}
 use borrow.Enum.Refused.{opened}
 use Rattle.records.proofs.bound_by.Goals as goal
 

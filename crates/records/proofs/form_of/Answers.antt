@@ -1,5 +1,4 @@
 -- `records::form_of` meets its contract: by the rule. Assumes nothing.
-use borrow.Author.Rules.{rules}
 use Rattle.records.proofs.form_of.Goals as goal
 
 pub returns-in-Product : goal.returns-in-Product

@@ -2,33 +2,34 @@
 use borrow.Author.Tests.{le-leb, lt-leb}
 use mathlib.Core.Path.{◌∙◌, sym}
 use Rattle.records.specs.Record.{record_at}
-use borrow.Author.Rules.{rules}
 use Rattle.records.proofs.record_at.Goals as goal
 
 pub returns-then-s-at : goal.returns-then-s-at
 unfolding record_at
-returns-then-s-at c = rw (le-leb _ _ c.if-s-at.true)
+returns-then-s-at c = rw (le-leb _ _ c.if-s-at.true, c.at.ensures)
+
+pub returns-in_default : goal.returns-in_default
+unfolding record_at
+returns-in_default c = rw (lt-leb _ _ c.if-s-at.false, sym c.shape_of.ensures ∙ c.in_default.is, c.at-in_default.ensures)
 
 pub returns-then-term : goal.returns-then-term
 unfolding record_at
-returns-then-term c = rw (lt-leb _ _ c.if-s-at.false, sym c.shape_of.ensures ∙ c.in-Type.is, c.if-term.true)
+returns-then-term c = rw (lt-leb _ _ c.if-s-at.false, sym c.shape_of.ensures ∙ c.in-Some.is, c.in-Type.is, c.if-term.true, c.at-then-term.ensures)
 
-pub returns-then-n-s : goal.returns-then-n-s
+pub returns-then-s-from : goal.returns-then-s-from
 unfolding record_at
-returns-then-n-s c = rw (lt-leb _ _ c.if-s-at.false, sym c.shape_of.ensures ∙ c.in-Type.is, c.if-term.false, le-leb _ _ c.if-n-s.true, c.form_of.ensures, ← c.body.ensures, ← c.body-then-n-s.ensures)
+returns-then-s-from c = rw (lt-leb _ _ c.if-s-at.false, sym c.shape_of.ensures ∙ c.in-Some.is, c.in-Type.is, c.if-term.false, lt-leb _ _ c.if-s-from.true, c.at-then-s-from.ensures)
 
-pub returns-else-n-s : goal.returns-else-n-s
+pub returns-then-s-from-2 : goal.returns-then-s-from-2
 unfolding record_at
-returns-else-n-s c = rw (lt-leb _ _ c.if-s-at.false, sym c.shape_of.ensures ∙ c.in-Type.is, c.if-term.false, lt-leb _ _ c.if-n-s.false)
+returns-then-s-from-2 c = rw (lt-leb _ _ c.if-s-at.false, sym c.shape_of.ensures ∙ c.in-Some.is, c.in-Node.is, lt-leb _ _ c.if-s-from-2.true, c.at-then-s-from-2.ensures)
 
-pub returns-then-n-s-2 : goal.returns-then-n-s-2
+pub returns-else-s-from : goal.returns-else-s-from
 unfolding record_at
-returns-then-n-s-2 c = rw (lt-leb _ _ c.if-s-at.false, sym c.shape_of.ensures ∙ c.in-Node.is, le-leb _ _ c.if-n-s-2.true, ← c.body-then-n-s-2.ensures, ← c.body-then-n-s-2-2.ensures)
+returns-else-s-from c =
+    rw (lt-leb _ _ c.if-s-at.false, sym c.shape_of.ensures ∙ c.in-Some.is, c.in-Type.is, c.if-term.false, le-leb _ _ c.if-s-from.false, c.form_of-form.ensures, ← c.body.ensures, ← c.body-in-Type.ensures)
 
-pub returns-else-n-s-2 : goal.returns-else-n-s-2
+pub returns-else-s-from-2 : goal.returns-else-s-from-2
 unfolding record_at
-returns-else-n-s-2 c = rw (lt-leb _ _ c.if-s-at.false, sym c.shape_of.ensures ∙ c.in-Node.is, lt-leb _ _ c.if-n-s-2.false)
-
-pub returns-in-Unknown : goal.returns-in-Unknown
-unfolding record_at
-returns-in-Unknown c = rw (lt-leb _ _ c.if-s-at.false, sym c.shape_of.ensures ∙ c.in-Unknown.is)
+returns-else-s-from-2 c =
+    rw (lt-leb _ _ c.if-s-at.false, sym c.shape_of.ensures ∙ c.in-Some.is, c.in-Node.is, le-leb _ _ c.if-s-from-2.false, ← c.body-in-Node.ensures, ← c.body-in-Node-2.ensures)

@@ -1,6 +1,5 @@
 -- `records::sides_of` meets its contract: by the form of the record. Assumes nothing.
 use Rattle.records.specs.TypeNumbers.{sided_of}
-use borrow.Author.Rules.{rules}
 use Rattle.records.proofs.sides_of.Goals as goal
 
 pub returns-in-Bit : goal.returns-in-Bit

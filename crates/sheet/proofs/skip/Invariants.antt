@@ -1,11 +1,7 @@
--- `sheet::skip` meets its contract. The invariant: k records are passed. The measure is the records left. Assumes nothing.
-use Prim.Native.Nat.{◌≤◌, ◌-◌}
+-- `sheet::skip` meets its contract. The invariant: as many records are passed as the counter says. Assumes nothing.
 use mathlib.Core.Path.{◌≡◌}
 use Rattle.sheet_theorems.specs.Subterms.{skip}
 use Rattle.sheet.proofs.skip.Given as goal
 
-abbrev pub invariant-loop-k : goal.invariant-loop-k
-invariant-loop-k l = (l.k ≤ l.n) × (l.at ≡ skip l.s l.k l.start)
-
-abbrev pub decreases-loop-k : goal.decreases-loop-k
-decreases-loop-k l = l.n - l.k
+abbrev pub invariant-loop : goal.invariant-loop
+invariant-loop l = l.at ≡ skip l.s l.counter l.start

@@ -9,7 +9,7 @@ use Rattle.sheet_writer.proofs.types_length.Goals as goal
 use Rattle.sheet_writer.proofs.types_length.Goals.{then-work-t-eq1, else-work-t-eq1}
 
 pub loop-t-init : goal.loop-t-init
-loop-t-init c = (omega arith, (refl, omega arith))
+loop-t-init c = (refl, omega arith)
 
 pub overflow_mul-t : goal.overflow_mul-t
 overflow_mul-t c = let p = c.requires in omega arith
@@ -29,18 +29,12 @@ overflow_add-total c = let p = c.requires in omega arith
 pub overflow_add-total-else-work-t-eq1 : goal.overflow_add-total-else-work-t-eq1
 overflow_add-total-else-work-t-eq1 c = let p = c.requires in omega arith
 
-pub overflow_add-t-in-loop-t : goal.overflow_add-t-in-loop-t
-overflow_add-t-in-loop-t c = let p = c.requires in omega arith
-
-pub loop-t-smaller : goal.loop-t-smaller
-loop-t-smaller c = omega arith
-
 pub loop-t-preserved : goal.loop-t-preserved
 loop-t-preserved c =
     elim c.if-work-t-eq1.branch [
-      | then-work-t-eq1 w ↦ rw w.total-is (omega arith, (longer_by c.args.work.now c.loop-t.t c.loop-t.total 1 c.loop-t.invariant.1.0 (bit_length c.args.work.now c.loop-t.t w.if-work-t-eq1.true), omega arith))
-      | else-work-t-eq1 w ↦ rw w.total-is (omega arith, (longer_by c.args.work.now c.loop-t.t c.loop-t.total 3 c.loop-t.invariant.1.0 (other_length c.args.work.now c.loop-t.t w.if-work-t-eq1.false), omega arith))
+      | then-work-t-eq1 w ↦ rw w.total-is (longer_by c.args.work.now c.loop-t.t c.loop-t.total 1 c.loop-t.invariant.0 (bit_length c.args.work.now c.loop-t.t w.if-work-t-eq1.true), omega arith)
+      | else-work-t-eq1 w ↦ rw w.total-is (longer_by c.args.work.now c.loop-t.t c.loop-t.total 3 c.loop-t.invariant.0 (other_length c.args.work.now c.loop-t.t w.if-work-t-eq1.false), omega arith)
     ]
 
 pub returns : goal.returns
-returns c = let e : c.loop-t.t ≡ c.args.n = omega arith in c.loop-t.invariant.1.0 ∙ ap (λ (t : ℕ). length (types_bytes c.args.work.now t)) e
+returns c = let e : c.loop-t.t ≡ c.args.n = omega arith in c.loop-t.invariant.0 ∙ ap (λ (t : ℕ). length (types_bytes c.args.work.now t)) e

@@ -25,10 +25,10 @@ pub overflow_add-bytes : goal.overflow_add-bytes
 overflow_add-bytes c = let ct = c.requires.types.count in let fw = c.requires.types.ok.few in let s = small_span c.args.work.now c.args.root c.requires.term _ c.measure-m.ensures in omega (arith, c.opening_length.ensures, c.types_length.ensures, opening_most c.args.work.now, types_most c.args.work.now (get_or c.args.work.now type_count_at 0), s.0)
 
 pub returns-then-out-bytes : goal.returns-then-out-bytes
-returns-then-out-bytes c = sheet-short c.args.work.now c.args.root _ c.args.out.now c.args.places.now refl c.measure-m.result c.measure-m.ensures _ (ap₂ (λ x y. x + y) (ap₂ (λ x y. x + y) c.opening_length.ensures c.types_length.ensures) refl) c.if-out-bytes.true
+returns-then-out-bytes c = rw c.at.ensures (sheet-short c.args.work.now c.args.root _ c.args.out.now c.args.places.now refl c.measure-m.result c.measure-m.ensures _ (ap₂ (λ x y. x + y) (ap₂ (λ x y. x + y) c.opening_length.ensures c.types_length.ensures) refl) c.if-out-bytes.true)
 
 pub returns-then-places-nodes : goal.returns-then-places-nodes
-returns-then-places-nodes c = sheet-few c.args.work.now c.args.root _ c.args.out.now c.args.places.now refl c.measure-m.result c.measure-m.ensures _ (ap₂ (λ x y. x + y) (ap₂ (λ x y. x + y) c.opening_length.ensures c.types_length.ensures) refl) c.if-out-bytes.false c.if-places-nodes.true
+returns-then-places-nodes c = rw c.at-then-places-nodes.ensures (sheet-few c.args.work.now c.args.root _ c.args.out.now c.args.places.now refl c.measure-m.result c.measure-m.ensures _ (ap₂ (λ x y. x + y) (ap₂ (λ x y. x + y) c.opening_length.ensures c.types_length.ensures) refl) c.if-out-bytes.false c.if-places-nodes.true)
 
 pub write_opening-from-requires : goal.write_opening-from-requires
 write_opening-from-requires c = (c.requires.types.room, opening-fits c.args.work.now c.args.root _ c.args.out.now c.args.places.now refl c.measure-m.result c.measure-m.ensures _ (ap₂ (λ x y. x + y) (ap₂ (λ x y. x + y) c.opening_length.ensures c.types_length.ensures) refl) c.if-out-bytes.false c.if-places-nodes.false)

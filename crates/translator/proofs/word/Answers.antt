@@ -2,13 +2,15 @@
 use mathlib.Core.Path.{sym, ap, ◌∙◌}
 use Rattle.translator.specs.Said.{said_answer}
 use Rattle.answers.specs.Word.{packed}
-use Rattle.translator.specs.declared.Answer as code
+use Prim.Native.Nat.{ℕ}
+use Rattle.std.specs.declared.result.Result.{Result}
+use Rattle.answers.specs.declared.Refusal.{Refusal}
 use Rattle.translator.proofs.word.Goals as goal
 
-pub returns-in-Written : goal.returns-in-Written
-returns-in-Written c =
-    c.shown.ensures ∙ sym (ap (λ (x : code.Answer). packed (said_answer x)) c.in-Written.is)
+pub returns-in-Ok : goal.returns-in-Ok
+returns-in-Ok c =
+    c.shown.ensures ∙ sym (ap (λ (x : Result ℕ Refusal). packed (said_answer x)) c.in-Ok.is)
 
-pub returns-in-Refused : goal.returns-in-Refused
-returns-in-Refused c =
-    rw (c.shown-place.ensures, c.shown-wanted.ensures, c.shown-found.ensures) (sym (ap (λ (x : code.Answer). packed (said_answer x)) c.in-Refused.is))
+pub returns-in-Err : goal.returns-in-Err
+returns-in-Err c =
+    rw (c.number.ensures, c.shown-place.ensures, c.shown-wanted.ensures, c.shown-found.ensures) (sym (ap (λ (x : Result ℕ Refusal). packed (said_answer x)) c.in-Err.is))

@@ -1,57 +1,52 @@
--- `type_walk::arguments` meets its contract. The types that wait are the first of those that `found_all` finds, and the words from the offset on are those of the others; the measure is the room that is left. Assumes nothing.
+-- `type_walk::arguments` meets its contract. The types that wait are the first of those that `found_all` finds, and the words from the offset on are those of the others. Assumes nothing.
 use native.Mathlib.Omega.{arith}
-use Rattle.words.specs.Next.{said_word}
-use Rattle.type_walk.proofs.ManyLaws.{keeps_first, keeps_same, keeps-few, keeps-can, keeps-full, keeps-room, keeps-long, keeps-there, keeps-refused, keeps-more, keeps-last}
 use mathlib.Core.Path.{◌∙◌}
+use Rattle.answers.proofs.Passed.{passed}
+use Rattle.words.specs.Next.{said_word}
+use Rattle.type_walk.proofs.ManyLaws.{keeps_first, keeps_same, keeps-few, keeps-can, keeps-full, keeps-long, keeps-there, keeps-refused, keeps-more, keeps-last}
 use Rattle.type_walk.proofs.arguments.Goals as goal
 
-pub loop-work-init : goal.loop-work-init
-loop-work-init c = λ C. keeps_first _ _ _ _ _ _ _ C
+pub overflow_sub-i-end : goal.overflow_sub-i-end
+overflow_sub-i-end c = c.requires.can.walk.walkable.scope.places.most
 
-pub overflow_add-i : goal.overflow_add-i
-overflow_add-i c = omega (arith, keeps-few _ _ _ _ _ _ _ c.requires _ _ _ (c.loop-work.invariant c.requires))
-
-pub has_room-requires : goal.has_room-requires
-has_room-requires c = (omega (arith, keeps-few _ _ _ _ _ _ _ c.requires _ _ _ (c.loop-work.invariant c.requires)), omega (arith, keeps-few _ _ _ _ _ _ _ c.requires _ _ _ (c.loop-work.invariant c.requires)))
+pub loop-i-init : goal.loop-i-init
+loop-i-init c = λ C. keeps_first _ _ _ _ _ _ _ C
 
 pub overflow_add-top : goal.overflow_add-top
-overflow_add-top c = omega (arith, keeps-few _ _ _ _ _ _ _ c.requires _ _ _ (c.loop-work.invariant c.requires))
+overflow_add-top c = omega (arith, keeps-few _ _ _ _ _ _ _ c.requires _ _ _ (c.loop-i.invariant c.requires))
 
-pub type_from-t-requires : goal.type_from-t-requires
-type_from-t-requires c = keeps-can _ _ _ _ _ _ _ c.requires _ _ _ (c.loop-work.invariant c.requires)
+pub type_from-requires : goal.type_from-requires
+type_from-requires c = keeps-can _ _ _ _ _ _ _ c.requires _ _ _ (c.loop-i.invariant c.requires)
 
-pub shape_of-work-in_default : goal.shape_of-work-in_default
-shape_of-work-in_default c = c.type_from-t.ensures.walked.same ∙ keeps_same _ _ _ _ _ _ _ c.requires _ _ _ (c.loop-work.invariant c.requires)
+pub shape_of-work-in_err-t : goal.shape_of-work-in_err-t
+shape_of-work-in_err-t c = c.type_from.ensures.walked.same ∙ keeps_same _ _ _ _ _ _ _ c.requires _ _ _ (c.loop-i.invariant c.requires)
 
-pub returns-in_default : goal.returns-in_default
-returns-in_default c = keeps-refused _ _ _ _ _ _ _ c.requires _ _ _ (c.loop-work.invariant c.requires) c.has_room.result c.has_room.ensures c.loop-work-test.true _ _ c.type_from-t.ensures _ _ c.in_default.is _ c.types_refused.ensures
+pub returns-in_err-t : goal.returns-in_err-t
+returns-in_err-t c = rw (passed c.from_residual.result c.from_residual.ensures.1) (keeps-refused _ _ _ _ _ _ _ c.requires _ _ _ (c.loop-i.invariant c.requires) (omega (arith, c.loop-i-test.true)) _ _ c.type_from.ensures _ c.in_err-t.was)
 
-pub overflow_add-top-in-loop-work : goal.overflow_add-top-in-loop-work
-overflow_add-top-in-loop-work c = omega (arith, keeps-few _ _ _ _ _ _ _ c.requires _ _ _ (c.loop-work.invariant c.requires))
+pub overflow_add-top-in-loop-i : goal.overflow_add-top-in-loop-i
+overflow_add-top-in-loop-i c = omega (arith, keeps-few _ _ _ _ _ _ _ c.requires _ _ _ (c.loop-i.invariant c.requires))
 
 pub bind-requires : goal.bind-requires
-bind-requires c = (omega (arith, keeps-room _ _ _ _ _ _ _ c.requires _ _ _ (c.loop-work.invariant c.requires) c.has_room.result c.has_room.ensures c.loop-work-test.true), (keeps-long _ _ _ _ _ _ _ c.requires _ _ _ (c.loop-work.invariant c.requires) c.has_room.result c.has_room.ensures c.loop-work-test.true _ _ c.type_from-t.ensures, (omega arith, omega (arith, c.wide.ensures, (keeps-there _ _ _ _ _ _ _ c.requires _ _ _ (c.loop-work.invariant c.requires) c.has_room.result c.has_room.ensures c.loop-work-test.true _ _ c.type_from-t.ensures _ _ c.in-At.is).1))))
-
-pub overflow_add-i-in-loop-work : goal.overflow_add-i-in-loop-work
-overflow_add-i-in-loop-work c = omega (arith, keeps-few _ _ _ _ _ _ _ c.requires _ _ _ (c.loop-work.invariant c.requires))
+bind-requires c = (omega (arith, c.loop-i-test.true), (keeps-long _ _ _ _ _ _ _ c.requires _ _ _ (c.loop-i.invariant c.requires) (omega (arith, c.loop-i-test.true)) _ _ c.type_from.ensures, (omega arith, omega (arith, c.from.ensures, (keeps-there _ _ _ _ _ _ _ c.requires _ _ _ (c.loop-i.invariant c.requires) (omega (arith, c.loop-i-test.true)) _ _ c.type_from.ensures _ c.in_ok-t.was).1))))
 
 pub word_at-c-requires : goal.word_at-c-requires
-word_at-c-requires c = (keeps-there _ _ _ _ _ _ _ c.requires _ _ _ (c.loop-work.invariant c.requires) c.has_room.result c.has_room.ensures c.loop-work-test.true _ _ c.type_from-t.ensures _ _ c.in-At.is).0
+word_at-c-requires c = (keeps-there _ _ _ _ _ _ _ c.requires _ _ _ (c.loop-i.invariant c.requires) (omega (arith, c.loop-i-test.true)) _ _ c.type_from.ensures _ c.in_ok-t.was).0
+
+pub overflow_add-result : goal.overflow_add-result
+overflow_add-result c = omega (arith, keeps-few _ _ _ _ _ _ _ c.requires _ _ _ (c.loop-i.invariant c.requires))
 
 pub shape_of-work-then-c-ne-COMMA : goal.shape_of-work-then-c-ne-COMMA
-shape_of-work-then-c-ne-COMMA c = (keeps-last _ _ _ _ _ _ _ c.requires _ _ _ (c.loop-work.invariant c.requires) c.has_room.result c.has_room.ensures c.loop-work-test.true _ _ c.type_from-t.ensures _ _ _ c.in-At.is c.wide.ensures _ c.bind.ensures (said_word c.word_at-c.result) c.word_at-c.ensures c.if-c-ne-COMMA.true).walked.same
+shape_of-work-then-c-ne-COMMA c = (keeps-last _ _ _ _ _ _ _ c.requires _ _ _ (c.loop-i.invariant c.requires) (omega (arith, c.loop-i-test.true)) _ _ c.type_from.ensures _ _ c.in_ok-t.was c.from.ensures _ c.bind.ensures (said_word c.word_at-c.result) c.word_at-c.ensures c.if-c-ne-COMMA.true).walked.same
 
 pub returns-then-c-ne-COMMA : goal.returns-then-c-ne-COMMA
-returns-then-c-ne-COMMA c = keeps-last _ _ _ _ _ _ _ c.requires _ _ _ (c.loop-work.invariant c.requires) c.has_room.result c.has_room.ensures c.loop-work-test.true _ _ c.type_from-t.ensures _ _ _ c.in-At.is c.wide.ensures _ c.bind.ensures (said_word c.word_at-c.result) c.word_at-c.ensures c.if-c-ne-COMMA.true
+returns-then-c-ne-COMMA c = keeps-last _ _ _ _ _ _ _ c.requires _ _ _ (c.loop-i.invariant c.requires) (omega (arith, c.loop-i-test.true)) _ _ c.type_from.ensures _ _ c.in_ok-t.was c.from.ensures _ c.bind.ensures (said_word c.word_at-c.result) c.word_at-c.ensures c.if-c-ne-COMMA.true
 
-pub loop-work-smaller : goal.loop-work-smaller
-loop-work-smaller c = omega (arith, keeps-room _ _ _ _ _ _ _ c.requires _ _ _ (c.loop-work.invariant c.requires) c.has_room.result c.has_room.ensures c.loop-work-test.true)
-
-pub loop-work-preserved : goal.loop-work-preserved
-loop-work-preserved c = λ C. keeps-more _ _ _ _ _ _ _ C _ _ _ (c.loop-work.invariant C) c.has_room.result c.has_room.ensures c.loop-work-test.true _ _ c.type_from-t.ensures _ _ _ c.in-At.is c.wide.ensures _ c.bind.ensures (said_word c.word_at-c.result) c.word_at-c.ensures c.if-c-ne-COMMA.false
+pub loop-i-preserved : goal.loop-i-preserved
+loop-i-preserved c = λ C. keeps-more _ _ _ _ _ _ _ C _ _ _ (c.loop-i.invariant C) (omega (arith, c.loop-i-test.true)) _ _ c.type_from.ensures _ _ c.in_ok-t.was c.from.ensures _ c.bind.ensures (said_word c.word_at-c.result) c.word_at-c.ensures c.if-c-ne-COMMA.false
 
 pub shape_of-work : goal.shape_of-work
-shape_of-work c = keeps_same _ _ _ _ _ _ _ c.requires _ _ _ (c.loop-work.invariant c.requires)
+shape_of-work c = keeps_same _ _ _ _ _ _ _ c.requires _ _ _ (c.loop-i.invariant c.requires)
 
 pub returns : goal.returns
-returns c = keeps-full _ _ _ _ _ _ _ c.requires _ _ _ (c.loop-work.invariant c.requires) c.has_room.result c.has_room.ensures c.loop-work-test.false
+returns c = rw c.at.ensures (keeps-full _ _ _ _ _ _ _ c.requires _ _ _ (c.loop-i.invariant c.requires) (omega (arith, c.loop-i-test.false)))

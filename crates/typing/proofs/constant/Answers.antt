@@ -9,27 +9,27 @@ use Rattle.typing.proofs.constant.Goals as goal
 pub is_type_of-requires : goal.is_type_of-requires
 is_type_of-requires c =
     let p = c.args.n.first in
-    let q = c.in-Part.part in
-    few-arrows p q.shape (shape_is p q (rw c.in-Part.is at c.part_at.ensures))
+    let q = c.in-Some.part in
+    few-arrows p q.shape (shape_is p q (rw c.in-Some.is at c.part_at.ensures))
 
 pub returns-then-is_type_of : goal.returns-then-is_type_of
 returns-then-is_type_of c =
     let a = c.args in
-    ((λ st. constant-fits (rec_in a.s.now) _ (edition_by a.second) _ _ _ st c.in-Part.part (rw c.in-Part.is at c.part_at.ensures) (sym c.is_type_of.ensures ∙ c.if-is_type_of.true)), (refl, refl))
+    ((λ st. constant-fits (rec_in a.s.now) _ (edition_by a.second) _ _ _ st c.in-Some.part (rw c.in-Some.is at c.part_at.ensures) (sym c.is_type_of.ensures ∙ c.if-is_type_of.true)), (refl, refl))
 
 pub type_number-requires : goal.type_number-requires
 type_number-requires c =
     let p = c.args.n.first in
-    let q = c.in-Part.part in
-    (few-arrows p q.shape (shape_is p q (rw c.in-Part.is at c.part_at.ensures)), c.requires.1)
+    let q = c.in-Some.part in
+    (few-arrows p q.shape (shape_is p q (rw c.in-Some.is at c.part_at.ensures)), c.requires.1)
 
-pub returns-in-Unknown : goal.returns-in-Unknown
-returns-in-Unknown c =
+pub returns-in_default : goal.returns-in_default
+returns-in_default c =
     let a = c.args in
-    rw c.refused.ensures ((λ st. constant-unknown (rec_in a.s.now) _ (edition_by a.second) _ _ _ st (rw c.in-Unknown.is at c.part_at.ensures)), tt)
+    rw c.at.ensures ((λ st. constant-unknown (rec_in a.s.now) _ (edition_by a.second) _ _ _ st (rw c.in_default.is at c.part_at.ensures)), tt)
 
-pub returns-else-is_type_of : goal.returns-else-is_type_of
-returns-else-is_type_of c =
+pub returns : goal.returns
+returns c =
     let a = c.args in
     rw c.clash.ensures
-    ((λ st. constant-misfit (rec_in a.s.now) _ (edition_by a.second) _ _ _ st c.in-Part.part (rw c.in-Part.is at c.part_at.ensures) c.type_number.ensures (sym c.is_type_of.ensures ∙ c.if-is_type_of.false)), tt)
+    ((λ st. constant-misfit (rec_in a.s.now) _ (edition_by a.second) _ _ _ st c.in-Some.part (rw c.in-Some.is at c.part_at.ensures) c.type_number.ensures (sym c.is_type_of.ensures ∙ c.if-is_type_of.false)), tt)

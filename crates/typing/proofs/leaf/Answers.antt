@@ -28,14 +28,14 @@ returns-in-Variable c b N =
     let a = c.args in
     says_as b c.answered.ensures
     (says_settled c.use_shared-taken.result (with_marks b a.marks) _ _ c.settled.ensures
-    (leaf_shared (rec_in a.s.now) _ _ a.n.rule _ _ _ b N c.wide-i.ensures c.slot-k.ensures c.bit-sort.ensures c.in-Variable.is c.use_shared-taken.ensures))
+    (leaf_shared (rec_in a.s.now) _ _ a.n.rule _ _ _ b N c.from-i.ensures c.slot-k.ensures c.bit-sort.ensures c.in-Variable.is c.use_shared-taken.ensures))
 
 pub returns-in-LinearVariable : goal.returns-in-LinearVariable
 returns-in-LinearVariable c b N =
     let a = c.args in
     says_as b c.answered-in-LinearVariable.ensures
     (says_settled c.use_linear-taken.result (with_marks b _) _ _ c.settled-in-LinearVariable.ensures
-    (rw c.with_bit-used.ensures (leaf_linear (rec_in a.s.now) _ _ a.n.rule _ _ _ b N c.wide-i.ensures c.slot-k.ensures c.bit-sort.ensures c.in-LinearVariable.is c.requires.0 c.bit.ensures c.use_linear-taken.ensures)))
+    (rw c.with_bit-used.ensures (leaf_linear (rec_in a.s.now) _ _ a.n.rule _ _ _ b N c.from-i.ensures c.slot-k.ensures c.bit-sort.ensures c.in-LinearVariable.is c.requires.0 c.bit.ensures c.use_linear-taken.ensures)))
 
 pub returns-in_default : goal.returns-in_default
 returns-in_default c b N =

@@ -4,7 +4,6 @@ use mathlib.Core.Path.{ap, ◌∙◌}
 use mathlib.Core.List.{List}
 use lib.Seq.{sets}
 use Rattle.walk_levels.specs.Levels.{scopes_at, scope_numbers}
-use borrow.Author.Rules.{rules}
 use Rattle.walk_levels.proofs.push.Goals as goal
 
 pub returns : goal.returns

@@ -2,7 +2,6 @@
 use native.Mathlib.Omega.{arith}
 use native.Mathlib.Numerals.{add-one, add-two}
 use lib.ListN.{length-set}
-use borrow.Author.Rules.{rules}
 use Rattle.walk_levels.proofs.set_scope.Goals as goal
 
 pub bounds-work-at-2 : goal.bounds-work-at-2

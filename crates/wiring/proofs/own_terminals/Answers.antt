@@ -1,5 +1,4 @@
 -- `wiring::own_terminals` meets its contract: by the record's rule, then its number of subterms. Assumes nothing.
-use native.Mathlib.Omega.{arith}
 use mathlib.Core.Path.{ap, ◌∙◌}
 use Prim.Native.Nat.{ℕ, ◌*◌}
 use lib.ListN.{get_or}
@@ -9,9 +8,6 @@ use Rattle.records.proofs.RuleLaws.{not_constant}
 use Rattle.wiring.specs.Count.{own_in}
 use borrow.Enum.Refused.{opened}
 use Rattle.wiring.proofs.own_terminals.Goals as goal
-
-pub overflow_mul-result : goal.overflow_mul-result
-overflow_mul-result c = omega (arith, c.size_of.ensures, c.type_inv.sizes c.bound_by.result)
 
 pub returns-then-node-eq1 : goal.returns-then-node-eq1
 unfolding own_in

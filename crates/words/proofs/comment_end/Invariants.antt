@@ -1,14 +1,10 @@
--- `words::comment_end` meets its contract. The invariant: the comment from the start ends where the comment from here does. The measure is
--- the bytes left. Assumes nothing.
-use Prim.Native.Nat.{◌+◌, ◌-◌, ◌≤◌}
+-- `words::comment_end` meets its contract. The invariant: the comment from the start ends where the comment from here does. Assumes nothing.
+use Prim.Native.Nat.{◌+◌}
 use mathlib.Core.Path.{◌≡◌}
 use mathlib.Core.Bool.{true}
-use lib.ListN.{length, drop}
+use lib.ListN.{drop}
 use Rattle.notation_calculus.specs.Words.{gap}
 use Rattle.words.proofs.comment_end.Given as goal
 
 abbrev pub invariant-loop-at : goal.invariant-loop-at
-invariant-loop-at l = (l.from ≤ l.at) × (l.at ≤ length l.text) × (l.at + gap true (drop l.at l.text) ≡ l.from + gap true (drop l.from l.text))
-
-abbrev pub decreases-loop-at : goal.decreases-loop-at
-decreases-loop-at l = length l.text - l.at
+invariant-loop-at l = l.at + gap true (drop l.at l.text) ≡ l.from + gap true (drop l.from l.text)

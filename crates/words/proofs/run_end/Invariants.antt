@@ -1,13 +1,9 @@
--- `words::run_end` meets its contract. The invariant: the run from the start ends where the run from here does. The measure is the bytes
--- left. Assumes nothing.
-use Prim.Native.Nat.{◌+◌, ◌-◌, ◌≤◌}
+-- `words::run_end` meets its contract. The invariant: the run from the start ends where the run from here does. Assumes nothing.
+use Prim.Native.Nat.{◌+◌}
 use mathlib.Core.Path.{◌≡◌}
-use lib.ListN.{length, drop}
+use lib.ListN.{drop}
 use Rattle.notation_calculus.specs.Words.{run}
 use Rattle.words.proofs.run_end.Given as goal
 
 abbrev pub invariant-loop-at : goal.invariant-loop-at
-invariant-loop-at l = (l.at ≤ length l.text) × (l.at + run (drop l.at l.text) ≡ l.from + run (drop l.from l.text))
-
-abbrev pub decreases-loop-at : goal.decreases-loop-at
-decreases-loop-at l = length l.text - l.at
+invariant-loop-at l = l.at + run (drop l.at l.text) ≡ l.from + run (drop l.from l.text)

@@ -1,13 +1,10 @@
--- `words::zeros_end` meets its contract. The invariant: the run goes on behind the zeros, and they add nothing. The measure is the bytes left. Assumes nothing.
-use Prim.Native.Nat.{◌+◌, ◌-◌, ◌≤◌}
+-- `words::zeros_end` meets its contract. The invariant: the run goes on behind the zeros, and they add nothing. Assumes nothing.
+use Prim.Native.Nat.{◌+◌}
 use mathlib.Core.Path.{◌≡◌}
-use lib.ListN.{length, drop}
+use lib.ListN.{drop}
 use Rattle.notation_calculus.specs.Words.{run}
 use Rattle.words.specs.Digits.{DigitsAt}
 use Rattle.words.proofs.zeros_end.Given as goal
 
 abbrev pub invariant-loop-at : goal.invariant-loop-at
-invariant-loop-at l = (l.at ≤ length l.text) × ((l.at + run (drop l.at l.text) ≡ l.start + run (drop l.start l.text)) × DigitsAt l.text l.start (l.start + run (drop l.start l.text)) 0 l.at)
-
-abbrev pub decreases-loop-at : goal.decreases-loop-at
-decreases-loop-at l = length l.text - l.at
+invariant-loop-at l = (l.at + run (drop l.at l.text) ≡ l.start + run (drop l.start l.text)) × DigitsAt l.text l.start (l.start + run (drop l.start l.text)) 0 l.at

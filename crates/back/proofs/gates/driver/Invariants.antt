@@ -4,8 +4,8 @@ use lib.ListN.{length}
 use Rattle.back.proofs.GateLaws.{WiresLeft}
 use Rattle.back.proofs.gates.driver.Given as goal
 
-abbrev pub invariant-loop-at : goal.invariant-loop-at
-invariant-loop-at l = WiresLeft l.net l.at l.i
+abbrev pub invariant-loop-from : goal.invariant-loop-from
+invariant-loop-from l = WiresLeft l.net l.at l.i
 
-abbrev pub decreases-loop-at : goal.decreases-loop-at
-decreases-loop-at l = length l.net - l.at
+abbrev pub decreases-loop-from : goal.decreases-loop-from
+decreases-loop-from l = length l.net - l.at

@@ -1,20 +1,25 @@
 -- A part stands at every place below their number. Assumes nothing.
-use native.Mathlib.Omega.{arith}
-use mathlib.Core.Path.{ap, subst, sym, ◌∙◌}
+use Rattle.std.proofs.Common.{rules}
+use mathlib.Core.Path.{◌≡◌, sym, ap, ◌∙◌}
+use Rattle.std.specs.Prelude.{Some, Ok}
 use Rattle.calculus.specs.NetRead.{item_at}
-use Rattle.net_reader.specs.Said.{said_record, front_size}
-use Rattle.back.proofs.GateLaws.{NotPart, part-known}
-use Rattle.back.proofs.RecordLaws.{no_part}
-use borrow.Enum.Refused.{opened}
+use Rattle.net_reader.specs.Said.{said_step}
+use Rattle.net_reader.specs.declared.Record.TheVariants as rec
+use Rattle.net_reader.proofs.Steps.{read_is, step_some}
+use Rattle.back.proofs.GateLaws.{part_stands}
 use Rattle.back.proofs.gates.gate_at.Goals as goal
 
-pub returns-in_default : goal.returns-in_default
-returns-in_default c =
-    let s = c.args.net.now in
-    let p = c.requires in
-    absurd (part-known s p.n p.r p.of p.low (subst NotPart (c.read-x.ensures.found_is ∙ ap (item_at s) p.there) (no_part c.read-x.result.found (opened c.in_default.in_default-own.keys2))))
+pub unreachable-requires : goal.unreachable-requires
+unreachable-requires c =
+    let a = c.args in
+    let p = part_stands a.net.now a.at c.requires in
+    let e = read_is a.net.now a.at c.read.result c.read.ensures _ p.2 in
+    search rules
 
 pub returns : goal.returns
 returns c =
-    let f = sym (ap said_record c.in-Part.is) ∙ c.read-x.ensures.found_is in
-    record { found_is = f; past_is = omega (arith, c.read-x.ensures.past_is, ap front_size f) }
+    let a = c.args in
+    let g = c.in-Ok-Some-Part in
+    let k : c.read.result ≡ Ok (Some (record { found = rec.Part g.part g.first; past = g.past })) = search rules in
+    let f = step_some (item_at a.net.now a.at) a.at (ap said_step (sym k) ∙ c.read.ensures) in
+    record { found_is = sym f.0; past_is = g.past-is ∙ f.1 }

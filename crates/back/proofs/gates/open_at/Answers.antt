@@ -5,10 +5,10 @@ use Rattle.back_calculus.specs.Back.{undrivens}
 use Rattle.back.proofs.SourceLaws.{source_open, source-wired}
 use Rattle.back.proofs.gates.open_at.Goals as goal
 
-pub returns-then-driver : goal.returns-then-driver
-returns-then-driver c =
-    sym (ap undrivens (source_open c.args.net.now c.requires.of.accepted c.args.i 0 (omega (arith, c.driver.ensures))))
+pub returns-in-Some : goal.returns-in-Some
+returns-in-Some c =
+    let e = c.in-Some.ensures in
+    sym (ap undrivens (source-wired c.args.net.now c.requires.of.accepted c.args.i 0 (λ z. omega (arith, e.driver, e.low))))
 
-pub returns-else-driver : goal.returns-else-driver
-returns-else-driver c =
-    sym (ap undrivens (source-wired c.args.net.now c.requires.of.accepted c.args.i 0 (λ e. omega (arith, c.driver.ensures))))
+pub returns-in-None : goal.returns-in-None
+returns-in-None c = sym (ap undrivens (source_open c.args.net.now c.requires.of.accepted c.args.i 0 (sym c.in-None.ensures.driver)))

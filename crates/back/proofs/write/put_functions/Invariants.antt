@@ -1,13 +1,8 @@
 -- The invariant: the first j rows stand. Assumes nothing.
 use mathlib.Core.Path.{◌≡◌}
-use Prim.Native.Nat.{◌≤◌, ◌-◌}
-use lib.ListN.{length}
 use lib.Seq.{sets}
 use Rattle.back.specs.Rows.{rows_up_to, function_row}
 use Rattle.back.proofs.write.put_functions.Given as goal
 
 abbrev pub invariant-loop-j : goal.invariant-loop-j
-invariant-loop-j l = (l.j ≤ l.k) × ((length l.out ≡ length l.initial.out) × (l.out ≡ sets l.initial.out l.from (rows_up_to (function_row l.top) l.j)))
-
-abbrev pub decreases-loop-j : goal.decreases-loop-j
-decreases-loop-j l = l.k - l.j
+invariant-loop-j l = l.out ≡ sets l.initial.out l.from (rows_up_to (function_row l.top) l.j)

@@ -11,31 +11,18 @@ use Rattle.back.proofs.GateLaws.{gate-place}
 use Rattle.back.proofs.WriteLaws.{gate-length, part_room, part_low, part-written}
 use Rattle.back.proofs.write.put_part.Goals as goal
 
-pub gate_at-g-requires : goal.gate_at-g-requires
-gate_at-g-requires c =
-    record { n = c.args.parts; r = c.args.r; of = c.requires.limited.of; low = c.requires.here; there = c.requires.there }
-
-pub put_pair-head-requires : goal.put_pair-head-requires
-put_pair-head-requires c =
-    let a = c.args in
-    let m = net_here a.net.now in
-    let g = c.gate_at-g in
-    let placed = gate-place a.net.now a.parts a.r a.here.gate c.requires.limited.of c.requires.here c.requires.there g.result g.ensures in
-    let l = c.requires.limited.most in
-    (omega arith, omega (arith, part_room m m.elements a.r g.result.part g.result.first placed.0 a.undriven (a.parts - 1) (a.parts - a.r) a.here.before a.here.at (length a.out.now) c.requires.fits))
-
 pub put_head-mid-requires : goal.put_head-mid-requires
 put_head-mid-requires c =
     let a = c.args in
     let m = net_here a.net.now in
     let g = c.gate_at-g in
-    let placed = gate-place a.net.now a.parts a.r a.here.gate c.requires.limited.of c.requires.here c.requires.there g.result g.ensures in
+    let placed = gate-place a.net.now a.layout.parts.count a.r a.here.gate c.requires.limited.of c.requires.here c.requires.there g.result g.ensures in
     let i = c.inputs_of-inputs.ensures in
     let p = c.put_pair-head in
     let k = p.auto.out in
     let e = p.ensures.0 in (
       omega (arith, few g.result.part),
-      omega (arith, part_room m m.elements a.r g.result.part g.result.first placed.0 a.undriven (a.parts - 1) (a.parts - a.r) a.here.before a.here.at (length a.out.now) c.requires.fits),
+      omega (arith, part_room m m.elements a.r g.result.part g.result.first placed.0 a.layout.undriven (a.layout.parts.count - 1) (a.layout.parts.count - a.r) a.here.before a.here.at (length a.out.now) c.requires.fits),
     )
 
 pub put_sources-then-requires : goal.put_sources-then-requires
@@ -43,7 +30,7 @@ put_sources-then-requires c =
     let a = c.args in
     let m = net_here a.net.now in
     let g = c.gate_at-g in
-    let placed = gate-place a.net.now a.parts a.r a.here.gate c.requires.limited.of c.requires.here c.requires.there g.result g.ensures in
+    let placed = gate-place a.net.now a.layout.parts.count a.r a.here.gate c.requires.limited.of c.requires.here c.requires.there g.result g.ensures in
     let i = c.inputs_of-inputs.ensures in
     let p = c.put_pair-head in
     let h = c.put_head-mid in
@@ -56,36 +43,25 @@ put_sources-then-requires c =
       behind = c.requires.behind;
       two = omega (arith, few g.result.part);
       first_low = search rules;
-      fits = omega (arith, part_room m m.elements a.r g.result.part g.result.first placed.0 a.undriven (a.parts - 1) (a.parts - a.r) a.here.before a.here.at (length a.out.now) c.requires.fits);
-      low = part_low m m.elements a.r g.result.part g.result.first placed.0 a.undriven (a.parts - 1) (a.parts - a.r) a.here.before c.inputs_of-inputs.result i c.requires.low;
+      fits = omega (arith, part_room m m.elements a.r g.result.part g.result.first placed.0 a.layout.undriven (a.layout.parts.count - 1) (a.layout.parts.count - a.r) a.here.before a.here.at (length a.out.now) c.requires.fits);
+      low = part_low m m.elements a.r g.result.part g.result.first placed.0 a.layout.undriven (a.layout.parts.count - 1) (a.layout.parts.count - a.r) a.here.before c.inputs_of-inputs.result i c.requires.low;
     }
-
-pub overflow_add-end : goal.overflow_add-end
-overflow_add-end c =
-    let h = c.put_head-mid in
-    let i = c.inputs_of-inputs.ensures in
-    let p = c.put_pair-head in
-    let a = c.args in
-    let m = net_here a.net.now in
-    let g = c.gate_at-g in
-    let placed = gate-place a.net.now a.parts a.r a.here.gate c.requires.limited.of c.requires.here c.requires.there g.result g.ensures in
-    omega (arith, h.ensures.0, p.ensures.0, few g.result.part, part_room m m.elements a.r g.result.part g.result.first placed.0 a.undriven (a.parts - 1) (a.parts - a.r) a.here.before a.here.at (length a.out.now) c.requires.fits)
 
 pub returns : goal.returns
 returns c =
     let a = c.args in
     let m = net_here a.net.now in
     let g = c.gate_at-g in
-    let placed = gate-place a.net.now a.parts a.r a.here.gate c.requires.limited.of c.requires.here c.requires.there g.result g.ensures in
+    let placed = gate-place a.net.now a.layout.parts.count a.r a.here.gate c.requires.limited.of c.requires.here c.requires.there g.result g.ensures in
     let i = c.inputs_of-inputs in
     let p = c.put_pair-head in
     let h = c.put_head-mid in
     let s = c.put_sources-then in
-    let q = a.parts - 1 in
-    let left = a.parts - a.r in
+    let q = a.layout.parts.count - 1 in
+    let left = a.layout.parts.count - a.r in
     rw (← placed.0) (
-      omega (arith, h.ensures.0, p.ensures.0, i.ensures, gate-length m a.undriven q left g.result.part g.result.first a.here.before),
+      omega (arith, h.ensures.0, p.ensures.0, i.ensures, gate-length m a.layout.undriven q left g.result.part g.result.first a.here.before),
       s.ensures.0 ∙ ap (λ (n : ℕ). a.here.before + undrivens (sources m n g.result.first a.here.before)) i.ensures,
       g.ensures.past_is,
-      part-written m a.undriven q left g.result.part g.result.first a.here.before a.out.now _ _ _ a.here.at p.result h.result i.result i.ensures p.ensures.0 h.ensures.0 p.ensures.1 h.ensures.1 s.ensures.1,
+      part-written m a.layout.undriven q left g.result.part g.result.first a.here.before a.out.now _ _ _ a.here.at p.result h.result i.result i.ensures p.ensures.0 h.ensures.0 p.ensures.1 h.ensures.1 s.ensures.1,
     )

@@ -5,13 +5,8 @@ use Prim.Native.Nat.{◌-◌}
 use lib.ListN.{length}
 use lib.Seq.{sets}
 use Rattle.back.specs.Gates.{net_here}
-use Rattle.back.proofs.WriteLaws.{none_written, next_low, next-room, next-written, all-written, rows_of}
+use Rattle.back.proofs.WriteLaws.{next_low, next-room, next-written, all-written, rows_of}
 use Rattle.back.proofs.write.put_parts.Goals as goal
-
-pub loop-r-init : goal.loop-r-init
-loop-r-init c =
-    let a = c.args in
-    (omega arith, omega arith, none_written (net_here a.net.now) a.undriven (a.parts - 1) a.from a.out.now c.requires.limited.undriven)
 
 pub put_part-next-requires : goal.put_part-next-requires
 put_part-next-requires c =
@@ -19,17 +14,17 @@ put_part-next-requires c =
     let l = c.loop-r in
     let m = net_here a.net.now in
     let o = c.requires.limited.of in
-    let q = a.parts - 1 in
+    let q = a.layout.parts.count - 1 in
     let s = c.requires.limited.some in
     let n = o.count in
-    let e = rows_of m a.undriven q o.parts (omega arith) in
+    let e = rows_of m a.layout.undriven q o.parts (omega arith) in
     record {
       limited = c.requires.limited;
       behind = c.requires.behind;
-      there = l.invariant.1;
+      there = l.invariant.0;
       here = c.loop-r-test.true;
-      fits = next-room m a.undriven q a.from a.out.now l.out l.next.at l.next.before l.r a.parts o.parts n c.loop-r-test.true l.invariant.2 _ (omega (arith, ap length e, c.requires.fits, l.invariant.2.same));
-      low = next_low m a.undriven q a.from a.out.now l.out l.next.at l.next.before l.r a.parts o.parts n c.loop-r-test.true l.invariant.2;
+      fits = next-room m a.layout.undriven q a.from a.out.now l.out l.next.at l.next.before l.r a.layout.parts.count o.parts n c.loop-r-test.true l.invariant.1 _ (omega (arith, ap length e, c.requires.fits, l.invariant.1.same));
+      low = next_low m a.layout.undriven q a.from a.out.now l.out l.next.at l.next.before l.r a.layout.parts.count o.parts n c.loop-r-test.true l.invariant.1;
     }
 
 pub loop-r-preserved : goal.loop-r-preserved
@@ -40,10 +35,7 @@ loop-r-preserved c =
     let m = net_here a.net.now in
     let o = c.requires.limited.of in
     let t = c.loop-r-test.true in
-    (omega arith, omega (arith, p.ensures.2, l.invariant.1), next-written m a.undriven (a.parts - 1) a.from a.out.now l.out l.next.at l.next.before l.r a.parts o.parts o.count t l.invariant.2 _ _ _ p.auto.out p.ensures.0 p.ensures.1 p.ensures.3)
-
-pub shape_of-out : goal.shape_of-out
-shape_of-out c = c.loop-r.invariant.2.same
+    (omega (arith, p.ensures.2, l.invariant.0), next-written m a.layout.undriven (a.layout.parts.count - 1) a.from a.out.now l.out l.next.at l.next.before l.r a.layout.parts.count o.parts o.count t l.invariant.1 _ _ _ p.auto.out p.ensures.0 p.ensures.1 p.ensures.3)
 
 pub returns : goal.returns
 returns c =
@@ -53,4 +45,4 @@ returns c =
     let o = c.requires.limited.of in
     let s = c.requires.limited.some in
     let n = o.count in
-    all-written m a.undriven (a.parts - 1) a.from a.out.now l.out l.next.at l.next.before l.r (omega arith) l.invariant.2 ∙ ap (sets a.out.now a.from) (sym (rows_of m a.undriven (a.parts - 1) o.parts (omega arith)))
+    all-written m a.layout.undriven (a.layout.parts.count - 1) a.from a.out.now l.out l.next.at l.next.before l.r (omega arith) l.invariant.1 ∙ ap (sets a.out.now a.from) (sym (rows_of m a.layout.undriven (a.layout.parts.count - 1) o.parts (omega arith)))

@@ -1,6 +1,8 @@
 -- By the driver. Assumes nothing.
 use native.Mathlib.Omega.{arith}
-use mathlib.Core.Path.{◌≡◌, ap, ◌∙◌}
+use Rattle.std.specs.Prelude.{Option, unwrap_or}
+use Rattle.calculus.specs.Lean.{driver}
+use mathlib.Core.Path.{◌≡◌, sym, ap, ◌∙◌}
 use mathlib.Core.List.{[], ◌∷◌}
 use Prim.Native.Nat.{ℕ, ◌-◌, ◌*◌}
 use lib.Seq.{sets}
@@ -10,14 +12,15 @@ use Rattle.back_calculus.specs.Back.{part_before}
 use Rattle.back.proofs.WriteLaws.{open_row, wired-row}
 use Rattle.back.proofs.write.put_source.Goals as goal
 
-pub driver-d-requires : goal.driver-d-requires
-driver-d-requires c = record { n = c.args.parts; of = c.requires.limited.of; there = c.requires.behind }
+pub driver-requires : goal.driver-requires
+driver-requires c = record { n = c.args.layout.parts.count; of = c.requires.limited.of; there = c.requires.behind }
 
-pub returns-then-d : goal.returns-then-d
-returns-then-d c =
+pub returns-in_default : goal.returns-in_default
+returns-in_default c =
     let a = c.args in
-    let e = open_row a.net.now c.requires.limited.of.accepted a.undriven (a.parts - 1) a.i a.before (omega (arith, c.driver-d.ensures)) in
-    (e.0, c.put_two.ensures ∙ ap (sets a.out.now a.at) (ap (λ (b : ℕ). 0x11 ∷ b ∷ []) c.open_binder.ensures ∙ e.1))
+    let d : driver (net_here a.net.now).wires a.i 65535 ≡ 65535 = sym c.driver.ensures.driver ∙ ap (λ (o : Option ℕ). unwrap_or o 65535) c.in_default.is in
+    let e = open_row a.net.now c.requires.limited.of.accepted a.layout.undriven (a.layout.parts.count - 1) a.i a.before d in
+    (e.0, c.put.ensures ∙ ap (sets a.out.now a.at) (ap (λ (b : ℕ). 0x11 ∷ b ∷ []) c.open_binder-binder.ensures ∙ e.1))
 
 pub output_binder-requires : goal.output_binder-requires
 output_binder-requires c =
@@ -25,13 +28,13 @@ output_binder-requires c =
     let s = l.some in
     let m = l.most in
     let n = l.of.count in
-    (omega arith, omega arith, omega (arith, c.part_before-r.ensures, before-few (net_here c.args.net.now).elements c.driver-d.result))
+    (omega arith, omega arith, omega (arith, c.part_before-r.ensures, before-few (net_here c.args.net.now).elements c.in-Some.d))
 
 pub returns : goal.returns
 returns c =
     let a = c.args in
-    let d = c.driver-d in
+    let d = c.in-Some.ensures in
     let p = c.part_before-r in
-    let e = wired-row a.net.now c.requires.limited.of.accepted a.undriven (a.parts - 1) a.i a.before (λ h. omega (arith, d.ensures)) in
-    let r : p.result ≡ part_before (net_here a.net.now).elements _ = p.ensures ∙ ap (part_before (net_here a.net.now).elements) d.ensures in
-    (e.0, c.put_two-2.ensures ∙ ap (sets a.out.now a.at) (ap (λ (b : ℕ). 0x11 ∷ b ∷ []) (c.output_binder.ensures ∙ ap (λ (y : ℕ). 2 * (a.parts - 1 - y) - 1) r) ∙ e.1))
+    let e = wired-row a.net.now c.requires.limited.of.accepted a.layout.undriven (a.layout.parts.count - 1) a.i a.before (λ h. omega (arith, d.driver, d.low)) in
+    let r : p.result ≡ part_before (net_here a.net.now).elements _ = p.ensures ∙ ap (part_before (net_here a.net.now).elements) d.driver in
+    (e.0, c.put-2.ensures ∙ ap (sets a.out.now a.at) (ap (λ (b : ℕ). 0x11 ∷ b ∷ []) (c.output_binder.ensures ∙ ap (λ (y : ℕ). 2 * (a.layout.parts.count - 1 - y) - 1) r) ∙ e.1))

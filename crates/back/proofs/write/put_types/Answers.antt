@@ -1,12 +1,10 @@
 -- The first three types, the products, the arrows. Assumes nothing.
 use native.Mathlib.Omega.{arith}
-use mathlib.Core.Path.{◌≡◌, sym, ap, ◌∙◌}
+use mathlib.Core.Path.{◌≡◌}
 use Prim.Native.Nat.{ℕ, ◌*◌, ◌≤◌}
-use lib.ListN.{length}
-use lib.Seq.{sets}
 use borrow.Author.Tests.{ne_eqb}
 use Rattle.back.specs.Rows.{arrow_length}
-use Rattle.back.proofs.TermLaws.{types_one, types-length, types-written}
+use Rattle.back.proofs.TermLaws.{types-length, types-written}
 use Rattle.back.proofs.write.put_types.Goals as goal
 
 -- behind more than one part there are arrows for all
@@ -19,11 +17,6 @@ put_base-requires c =
     let r = c.requires.3 in
     let s = c.requires.0 in
     omega arith
-
-pub returns-then-parts-eq1 : goal.returns-then-parts-eq1
-returns-then-parts-eq1 c =
-    let e = types_one c.args.parts c.args.undriven (omega arith) in
-    (sym (ap length e), c.put_base.ensures ∙ ap (sets c.args.out.now 0) (sym e))
 
 pub put_products-requires : goal.put_products-requires
 put_products-requires c =

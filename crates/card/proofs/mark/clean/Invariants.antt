@@ -1,10 +1,6 @@
 -- The invariant: the first x terminals are clean, and the lowest so far is known. Assumes nothing.
-use Prim.Native.Nat.{◌≤◌, ◌-◌}
 use Rattle.card.proofs.MarkLaws.{Cleaning}
 use Rattle.card.proofs.mark.clean.Given as goal
 
 abbrev pub invariant-loop-x : goal.invariant-loop-x
-invariant-loop-x l = (l.x ≤ l.end) × Cleaning l.initial.work l.end l.x l.lowest l.work
-
-abbrev pub decreases-loop-x : goal.decreases-loop-x
-decreases-loop-x l = l.end - l.x
+invariant-loop-x l = Cleaning l.initial.work l.end l.x l.lowest l.work

@@ -1,41 +1,13 @@
 -- The invariant: the wires to the first x terminals are marked; what is passed behind the last is an output. Assumes nothing.
 use native.Mathlib.Omega.{arith}
 use mathlib.Core.Path.{sym, subst}
-use Prim.Native.Nat.{ℕ, ◌≤◌, ◌<◌, ◌+◌}
+use Prim.Native.Nat.{ℕ, ◌+◌}
 use Rattle.export_calculus.specs.Card.{drives}
 use Rattle.memory.specs.Map.{roots_at}
-use Rattle.lean.specs.Layout.{kinds_from, wire_at, row_in}
+use Rattle.lean.specs.Layout.{wire_at, row_in}
 use Rattle.card.specs.Marks.{MarkedWhere, mark_wire}
 use Rattle.card.proofs.MarkLaws.{wires_next, wires_passed, passed-end, wires_end}
 use Rattle.card.proofs.mark.mark_wires.Goals as goal
-
-pub bounds-work-x : goal.bounds-work-x
-bounds-work-x c =
-    let l = c.loop-x in
-    let z = c.requires.ready.size in
-    let b = c.requires.ready.below in
-    let e = l.invariant.1.1.size in
-    omega arith
-
-pub mark_wire-requires : goal.mark_wire-requires
-mark_wire-requires c =
-    let l = c.loop-x in
-    let z = c.requires.ready.size in
-    let e = l.invariant.1.1.size in
-    (omega arith, subst (λ (v : ℕ). v < kinds_from → v ≤ 8192) (sym (l.invariant.1.1.high (roots_at + l.x) (omega arith))) (c.requires.ready.inputs l.x c.loop-x-test.true))
-
-pub behind-x-requires : goal.behind-x-requires
-behind-x-requires c =
-    let l = c.loop-x in
-    let z = c.requires.ready.size in
-    let b = c.requires.ready.below in
-    let h = c.loop-x-test.true in
-    let e = l.invariant.1.1.size in
-    let k = c.mark_wire.auto.work in
-    (omega arith, omega arith)
-
-pub loop-x-smaller : goal.loop-x-smaller
-loop-x-smaller c = let h = c.loop-x-test.true in let r = c.behind-x.ensures.rises in omega arith
 
 pub loop-x-preserved : goal.loop-x-preserved
 loop-x-preserved c =

@@ -2,31 +2,21 @@
 use mathlib.Core.Path.{sym, ap, ◌∙◌}
 use mathlib.Core.Bool.{Bool, cond}
 use Prim.Native.Nat.{◌-◌, ◌+◌}
+use Rattle.std.specs.Prelude.{Some}
 use Rattle.card.specs.Rings.{lowest_from}
-use Rattle.card.proofs.RingLaws.{lowest-next, lowest-end, ring_up}
+use Rattle.card.proofs.RingLaws.{lowest-next}
 use Rattle.card.proofs.rings.lowest_from.Goals as goal
-
-pub is_ring_at-requires : goal.is_ring_at-requires
-is_ring_at-requires c = (c.requires, c.loop-x-test.true)
-
-pub overflow_sub-result : goal.overflow_sub-result
-overflow_sub-result c =
-    let a = c.args in
-    ring_up a.work.now a.end a.pins c.requires c.loop-x.x c.loop-x-test.true (sym c.is_ring_at.ensures ∙ c.if-is_ring_at.true)
 
 pub returns-then-is_ring_at : goal.returns-then-is_ring_at
 returns-then-is_ring_at c =
     let a = c.args in
     let l = c.loop-x in
     let w = a.work.now in
-    sym (ap (λ (b : Bool). cond b (l.x - 1) (lowest_from w (a.end - (l.x + 1)) (l.x + 1))) (sym c.is_ring_at.ensures ∙ c.if-is_ring_at.true)) ∙ sym (lowest-next w a.end l.x c.loop-x-test.true) ∙ l.invariant
+    sym (ap (λ (b : Bool). cond b (Some (l.x - 1)) (lowest_from w (a.end - (l.x + 1)) (l.x + 1))) (sym c.is_ring_at.ensures ∙ c.if-is_ring_at.true)) ∙ sym (lowest-next w a.end l.x c.loop-x-test.true) ∙ l.invariant
 
 pub loop-x-preserved : goal.loop-x-preserved
 loop-x-preserved c =
     let a = c.args in
     let l = c.loop-x in
     let w = a.work.now in
-    sym (ap (λ (b : Bool). cond b (l.x - 1) (lowest_from w (a.end - (l.x + 1)) (l.x + 1))) (sym c.is_ring_at.ensures ∙ c.if-is_ring_at.false)) ∙ sym (lowest-next w a.end l.x c.loop-x-test.true) ∙ l.invariant
-
-pub returns : goal.returns
-returns c = let a = c.args in let l = c.loop-x in sym (lowest-end a.work.now a.end l.x c.loop-x-test.false) ∙ l.invariant
+    sym (ap (λ (b : Bool). cond b (Some (l.x - 1)) (lowest_from w (a.end - (l.x + 1)) (l.x + 1))) (sym c.is_ring_at.ensures ∙ c.if-is_ring_at.false)) ∙ sym (lowest-next w a.end l.x c.loop-x-test.true) ∙ l.invariant

@@ -6,6 +6,3 @@ use Rattle.card.proofs.rings.lowest_from.Given as goal
 
 abbrev pub invariant-loop-x : goal.invariant-loop-x
 invariant-loop-x l = lowest_from l.work (l.end - l.x) l.x ≡ lowest_from l.work (l.end - l.from) l.from
-
-abbrev pub decreases-loop-x : goal.decreases-loop-x
-decreases-loop-x l = l.end - l.x

@@ -1,7 +1,6 @@
 -- `clauses::cell_of` meets its contract. Assumes nothing.
 use mathlib.Core.Path.{refl}
 use Rattle.clauses.proofs.CellLaws.{cell_open, cell_one}
-use borrow.Author.Rules.{rules}
 use Rattle.clauses.proofs.cells.cell_of.Goals as goal
 
 pub returns-then-k : goal.returns-then-k

@@ -1,12 +1,11 @@
--- `clauses::cells_fit` meets its contract. The invariant: the cells that are left decide. The measure is how many are left. Assumes nothing.
-use Prim.Native.Nat.{ℕ, ◌+◌, ◌-◌}
+-- `clauses::cells_fit` meets its contract. The invariant: the cells that are left decide. Assumes nothing.
+use Prim.Native.Nat.{ℕ}
 use mathlib.Core.Path.{ap, ◌∙◌}
 use native.Mathlib.Omega.{arith}
 use lib.ListN.{get_or}
 use Rattle.words.proofs.WordLaws.{not_yes, not_no}
 use Rattle.clauses.specs.Cells.{cell_at, cell_fits}
-use Rattle.clauses.proofs.CellLaws.{CellsLeft, cells_none, cells-no, cells-more, cells_all}
-use borrow.Author.Rules.{rules}
+use Rattle.clauses.proofs.CellLaws.{cells_none, cells-no, cells-more, cells_all}
 use Rattle.clauses.proofs.cells.cells_fit.Goals as goal
 
 pub loop-j-init : goal.loop-j-init

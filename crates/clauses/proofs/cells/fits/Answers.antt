@@ -4,7 +4,6 @@ use mathlib.Core.Path.{ap, ◌∙◌}
 use native.Mathlib.Omega.{arith}
 use lib.Dec.{eqb, leb}
 use Rattle.clauses.proofs.CellLaws.{fits-high, fits_low}
-use borrow.Author.Rules.{rules}
 use Rattle.clauses.proofs.cells.fits.Goals as goal
 
 pub returns-then-c-ge256 : goal.returns-then-c-ge256

@@ -7,7 +7,6 @@ use Rattle.notation_calculus.specs.Making.{fit_all}
 use Rattle.clauses.specs.Numbers.{numbers_from, NumbersThere}
 use Rattle.clauses.specs.Meant.{values_in}
 use Rattle.clauses.proofs.CellLaws.{numbers-no, numbers-yes, numbers-later}
-use borrow.Author.Rules.{rules}
 use Rattle.clauses.proofs.cells.numbers_fit.Goals as goal
 
 pub cells_fit-requires : goal.cells_fit-requires

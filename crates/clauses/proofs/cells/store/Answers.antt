@@ -1,12 +1,9 @@
--- `clauses::store` meets its contract. The invariant: the cells of the numbers that were read stand there, and the others are left. The measure is how many cells are
--- left. Assumes nothing.
-use Prim.Native.Nat.{ℕ, ◌+◌, ◌-◌}
+-- `clauses::store` meets its contract. The invariant: the cells of the numbers that were read stand there, and the others are left. Assumes nothing.
 use mathlib.Core.Path.{◌∙◌}
 use lib.ListN.{length-set}
 use native.Mathlib.Omega.{arith}
 use Rattle.clauses.proofs.NumberLaws.{number_there}
-use Rattle.clauses.proofs.CellLaws.{Keeping, keeping_none, keeping-more, keeping_all}
-use borrow.Author.Rules.{rules}
+use Rattle.clauses.proofs.CellLaws.{keeping_none, keeping-more, keeping_all}
 use Rattle.clauses.proofs.cells.store.Goals as goal
 
 pub loop-i-init : goal.loop-i-init

@@ -3,7 +3,6 @@ use mathlib.Core.Path.{sym, ◌∙◌, subst}
 use Rattle.words.proofs.WordLaws.{not_yes, not_no}
 use Rattle.clauses.specs.Numbers.{NumbersThere}
 use Rattle.clauses.proofs.FollowLaws.{follow_other, follow-types, follow-numbers, follow-covered}
-use borrow.Author.Rules.{rules}
 use Rattle.clauses.proofs.follows.may_follow.Goals as goal
 
 pub returns-then-not-namesake : goal.returns-then-not-namesake

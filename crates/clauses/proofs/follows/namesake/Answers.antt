@@ -4,7 +4,6 @@ use Rattle.words.proofs.WordLaws.{not_yes, not_no}
 use Rattle.words.specs.Next.{run_at}
 use Rattle.words.proofs.NameLaws.{names-swap}
 use Rattle.clauses.proofs.FollowLaws.{namesake_no, namesake-run}
-use borrow.Author.Rules.{rules}
 use Rattle.clauses.proofs.follows.namesake.Goals as goal
 
 pub returns-then-not-same_sort : goal.returns-then-not-same_sort

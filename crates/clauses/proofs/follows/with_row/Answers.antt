@@ -11,14 +11,13 @@ use Rattle.clauses.specs.Rows.{row_numbers}
 use Rattle.clauses.specs.Cells.{CellsStored}
 use Rattle.clauses.specs.Follows.{with_row}
 use Rattle.clauses.proofs.FollowLaws.{refusal-full, refusal-covered, refusal-none, with_row_is}
-use borrow.Author.Rules.{rules}
 use Rattle.clauses.proofs.follows.with_row.Goals as goal
 
 pub returns-then-n-ge256 : goal.returns-then-n-ge256
-returns-then-n-ge256 c = record { refusal = refusal-full c.args.text.now c.args.work.now c.args.d c.row_count-n.result c.row_count-n.ensures c.if-n-ge256.true; added = λ z. absurd (omega arith); same = λ z. refl }
+returns-then-n-ge256 c = (refusal-full c.args.text.now c.args.work.now c.args.d c.row_count-n.result c.row_count-n.ensures c.if-n-ge256.true, omega arith, refl)
 
 pub returns-then-not-may_follow_all : goal.returns-then-not-may_follow_all
-returns-then-not-may_follow_all c = record { refusal = refusal-covered c.args.text.now c.args.work.now c.args.d c.row_count-n.result c.row_count-n.ensures (omega (arith, c.if-n-ge256.false)) (sym c.may_follow_all.ensures ∙ not_yes _ c.if-not-may_follow_all.true-raw); added = λ z. absurd (omega arith); same = λ z. refl }
+returns-then-not-may_follow_all c = (refusal-covered c.args.text.now c.args.work.now c.args.d c.row_count-n.result c.row_count-n.ensures (omega (arith, c.if-n-ge256.false)) (sym c.may_follow_all.ensures ∙ not_yes _ c.if-not-may_follow_all.true-raw), omega arith, refl)
 
 pub store-requires-2 : goal.store-requires-2
 store-requires-2 c =
@@ -37,8 +36,4 @@ returns c =
     let t = c.store in
     let u = c.store-2 in
     let d = c.args.d in
-    record {
-      refusal = refusal-none c.args.text.now c.args.work.now d n.result n.ensures (omega (arith, c.if-n-ge256.false)) (sym c.may_follow_all.ensures ∙ not_no _ c.if-not-may_follow_all.false-raw);
-      added = λ z. subst (λ (k : ℕ). CellsStored c.args.text.now (with_row c.args.work.now d) k d.numbered d.numbers u.new.work) n.ensures (subst (λ (w : List ℕ). CellsStored c.args.text.now w n.result d.numbered d.numbers u.new.work) (with_row_is c.args.text.now c.args.work.now d n.result n.ensures t.new.work t.ensures) u.ensures);
-      same = λ z. absurd (z refl);
-    }
+    (refusal-none c.args.text.now c.args.work.now d n.result n.ensures (omega (arith, c.if-n-ge256.false)) (sym c.may_follow_all.ensures ∙ not_no _ c.if-not-may_follow_all.false-raw), subst (λ (k : ℕ). CellsStored c.args.text.now (with_row c.args.work.now d) k d.numbered d.numbers u.new.work) n.ensures (subst (λ (w : List ℕ). CellsStored c.args.text.now w n.result d.numbered d.numbers u.new.work) (with_row_is c.args.text.now c.args.work.now d n.result n.ensures t.new.work t.ensures) u.ensures))

@@ -1,6 +1,5 @@
 -- `clauses::counted` meets its contract. Assumes nothing.
 use Rattle.clauses.proofs.GroupLaws.{counted_comma, counted-other}
-use borrow.Author.Rules.{rules}
 use Rattle.clauses.proofs.groups.counted.Goals as goal
 
 pub returns-then-kind-eq-COMMA : goal.returns-then-kind-eq-COMMA

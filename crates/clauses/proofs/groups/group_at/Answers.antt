@@ -2,11 +2,9 @@
 -- the words that are left. Assumes nothing.
 use mathlib.Core.Path.{sym, ◌∙◌}
 use native.Mathlib.Omega.{arith}
-use lib.ListN.{length}
 use Rattle.words.specs.Next.{said_word}
-use Rattle.words.specs.Lexed.{from}
 use Rattle.words.proofs.WordLaws.{not_yes, not_no}
-use Rattle.clauses.proofs.GroupLaws.{Counting, group_none, group_on, group_first, group-word, group-turn, group-cut, group-done}
+use Rattle.clauses.proofs.GroupLaws.{group_none, group_on, group_first, group-word, group-turn, group-cut, group-done}
 use Rattle.clauses.proofs.groups.group_at.Goals as goal
 
 pub word_at-w-requires : goal.word_at-w-requires

@@ -1,12 +1,9 @@
 -- `clauses::group_at` meets its contract. The invariant: what is counted and what is still to count are the group's count. The measure is
 -- the words that are left. Assumes nothing.
-use mathlib.Core.Path.{sym, ◌∙◌}
-use native.Mathlib.Omega.{arith}
 use lib.ListN.{length}
 use Rattle.words.specs.Next.{said_word}
 use Rattle.words.specs.Lexed.{from}
-use Rattle.words.proofs.WordLaws.{not_yes, not_no}
-use Rattle.clauses.proofs.GroupLaws.{Counting, group_none, group_on, group_first, group-word, group-turn, group-cut, group-done}
+use Rattle.clauses.proofs.GroupLaws.{Counting}
 use Rattle.clauses.proofs.groups.group_at.Given as goal
 
 abbrev pub invariant-loop-at : goal.invariant-loop-at

@@ -1,13 +1,11 @@
 -- `clauses::clause_for` meets its contract. The invariant: the rows that are left decide. The measure is how many are left. Assumes nothing.
-use Prim.Native.Nat.{◌-◌}
 use mathlib.Core.Path.{sym, ap, subst, ◌∙◌}
 use native.Mathlib.Omega.{arith}
 use Rattle.clauses.specs.declared.rows.Row.{Row}
 use Rattle.clauses.specs.Cells.{CellsThere}
 use Rattle.clauses.specs.Follows.{RowThere}
 use Rattle.clauses.specs.Meant.{row_meant}
-use Rattle.clauses.proofs.MeantLaws.{Seeking, seeking_none, seeking-found, seeking-more, seeking_key, seeking-all}
-use borrow.Author.Rules.{rules}
+use Rattle.clauses.proofs.MeantLaws.{seeking_none, seeking-found, seeking-more, seeking_key, seeking-all}
 use Rattle.clauses.proofs.meant.clause_for.Goals as goal
 
 pub key_of-key-requires : goal.key_of-key-requires

@@ -1,11 +1,9 @@
--- `clauses::fit_all` meets its contract. The invariant: what is left of the numbers and the values decides. The measure is how many are left.
+-- `clauses::fit_all` meets its contract. The invariant: what is left of the numbers and the values decides.
 -- Assumes nothing.
-use Prim.Native.Nat.{◌-◌}
 use mathlib.Core.Path.{sym, ◌∙◌}
 use native.Mathlib.Omega.{arith}
 use Rattle.words.proofs.WordLaws.{not_yes, not_no}
-use Rattle.clauses.proofs.MeantLaws.{FittingOn, on_none, on-there, on-no, on-more, on_all}
-use borrow.Author.Rules.{rules}
+use Rattle.clauses.proofs.MeantLaws.{on_none, on-there, on-no, on-more, on_all}
 use Rattle.clauses.proofs.meant.fit_all.Goals as goal
 
 pub first_at-p-requires : goal.first_at-p-requires

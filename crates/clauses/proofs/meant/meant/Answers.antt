@@ -3,7 +3,6 @@ use mathlib.Core.Path.{sym, ◌∙◌}
 use native.Mathlib.Omega.{arith}
 use Rattle.words.proofs.WordLaws.{not_yes, not_no}
 use Rattle.clauses.proofs.MeantLaws.{meant-other, meant-types, meant-numbers, meant-fits}
-use borrow.Author.Rules.{rules}
 use Rattle.clauses.proofs.meant.meant.Goals as goal
 
 pub namesake-requires : goal.namesake-requires

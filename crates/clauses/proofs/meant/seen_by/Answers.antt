@@ -3,7 +3,6 @@ use mathlib.Core.Path.{sym, subst}
 use native.Mathlib.Omega.{arith}
 use Rattle.clauses.specs.Follows.{RowThere}
 use Rattle.clauses.proofs.MeantLaws.{seen_above, seen_upto}
-use borrow.Author.Rules.{rules}
 use Rattle.clauses.proofs.meant.seen_by.Goals as goal
 
 pub row_at-c-requires : goal.row_at-c-requires

@@ -3,12 +3,10 @@
 use Prim.Native.Nat.{◌≤◌}
 use mathlib.Core.Path.{sym, ap, subst, ◌∙◌}
 use native.Mathlib.Omega.{arith}
-use lib.ListN.{length, get_or}
-use Rattle.making_memory.specs.Map.{clause_count_at}
+use lib.ListN.{length}
 use Rattle.clauses.specs.declared.rows.Row.{Row}
 use Rattle.clauses.specs.Follows.{row_namesake}
-use Rattle.clauses.proofs.MeantLaws.{CountingDown, down_none, down-found, down-more, down_key, down-all}
-use borrow.Author.Rules.{rules}
+use Rattle.clauses.proofs.MeantLaws.{down_none, down-found, down-more, down_key, down-all}
 use Rattle.clauses.proofs.meant.up_to.Goals as goal
 
 pub row_count-n-requires : goal.row_count-n-requires

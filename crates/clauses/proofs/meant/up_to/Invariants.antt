@@ -1,14 +1,8 @@
 -- `clauses::up_to` meets its contract. The invariant: no row from here on is of the sort and name. The measure is how many rows stand
 -- above. Assumes nothing.
-use Prim.Native.Nat.{◌≤◌}
-use mathlib.Core.Path.{sym, ap, subst, ◌∙◌}
-use native.Mathlib.Omega.{arith}
-use lib.ListN.{length, get_or}
+use lib.ListN.{get_or}
 use Rattle.making_memory.specs.Map.{clause_count_at}
-use Rattle.clauses.specs.declared.rows.Row.{Row}
-use Rattle.clauses.specs.Follows.{row_namesake}
-use Rattle.clauses.proofs.MeantLaws.{CountingDown, down_none, down-found, down-more, down_key, down-all}
-use borrow.Author.Rules.{rules}
+use Rattle.clauses.proofs.MeantLaws.{CountingDown}
 use Rattle.clauses.proofs.meant.up_to.Given as goal
 
 abbrev pub invariant-loop-k : goal.invariant-loop-k

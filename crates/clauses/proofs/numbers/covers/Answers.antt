@@ -1,6 +1,5 @@
 -- `clauses::covers` meets its contract. Assumes nothing.
 use Rattle.clauses.proofs.NumberLaws.{covers_open, covers_one}
-use borrow.Author.Rules.{rules}
 use Rattle.clauses.proofs.numbers.covers.Goals as goal
 
 pub returns-then-p : goal.returns-then-p

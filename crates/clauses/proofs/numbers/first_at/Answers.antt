@@ -1,7 +1,6 @@
 -- `clauses::first_at` meets its contract. Assumes nothing.
 use Rattle.words.specs.Next.{said_word}
 use Rattle.clauses.proofs.NumberLaws.{behind_on}
-use borrow.Author.Rules.{rules}
 use Rattle.clauses.proofs.numbers.first_at.Goals as goal
 
 pub returns : goal.returns

@@ -2,7 +2,6 @@
 use Rattle.words.specs.Next.{said_word}
 use Rattle.clauses.proofs.HeadLaws.{name-onward}
 use Rattle.clauses.proofs.NumberLaws.{number-plain, number-name, plus-onward, number-plus}
-use borrow.Author.Rules.{rules}
 use Rattle.clauses.proofs.numbers.number_at.Goals as goal
 
 pub word_at-w-requires : goal.word_at-w-requires

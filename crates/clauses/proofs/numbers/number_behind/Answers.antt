@@ -5,7 +5,6 @@ use Rattle.notation_calculus.specs.Words.{Word}
 use Rattle.words.specs.Next.{said_word}
 use Rattle.clauses.specs.Numbers.{NumberThere, NumberRead}
 use Rattle.clauses.proofs.NumberLaws.{behind_on}
-use borrow.Author.Rules.{rules}
 use Rattle.clauses.proofs.numbers.number_behind.Goals as goal
 
 pub word_at-w-requires : goal.word_at-w-requires

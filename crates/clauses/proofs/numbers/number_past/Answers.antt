@@ -4,7 +4,6 @@ use Rattle.words.specs.Next.{said_word}
 use Rattle.grammar.proofs.EndLaws.{word-marks}
 use Rattle.words.specs.Lexed.{from}
 use Rattle.clauses.proofs.NumberLaws.{number-onward, number-plain, number-name, plus-onward, number-plus, past_by}
-use borrow.Author.Rules.{rules}
 use Rattle.clauses.proofs.numbers.number_past.Goals as goal
 
 pub word_here-p-requires : goal.word_here-p-requires

@@ -1,11 +1,8 @@
 -- `clauses::head_at` meets its contract. The invariant: rows are sought among those of the table. The measure is how many are left.
 -- Assumes nothing.
-use Prim.Native.Nat.{ℕ, ◌+◌, ◌-◌, ◌/◌, ◌≤◌}
-use mathlib.Core.Path.{◌≡◌, sym, ◌∙◌}
-use native.Mathlib.Omega.{arith}
+use Prim.Native.Nat.{◌-◌, ◌≤◌}
 use lib.ListN.{get_or}
 use Rattle.making_memory.specs.Map.{clause_count_at}
-use borrow.Author.Rules.{rules}
 use Rattle.clauses.proofs.rows.head_at.Given as goal
 
 abbrev pub invariant-loop-low : goal.invariant-loop-low

@@ -1,7 +1,6 @@
 -- `clauses::key_of` meets its contract. Assumes nothing.
 use mathlib.Core.Path.{refl}
 use Rattle.clauses.proofs.RowLaws.{key_type, key_term}
-use borrow.Author.Rules.{rules}
 use Rattle.clauses.proofs.rows.key_of.Goals as goal
 
 pub returns-then-sort : goal.returns-then-sort

@@ -2,7 +2,6 @@
 use mathlib.Core.Path.{refl}
 use Rattle.clauses.specs.Rows.{row_in}
 use Rattle.clauses.proofs.RowLaws.{row-parts}
-use borrow.Author.Rules.{rules}
 use Rattle.clauses.proofs.rows.row_at.Goals as goal
 
 pub returns : goal.returns

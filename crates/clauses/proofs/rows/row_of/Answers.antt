@@ -2,7 +2,6 @@
 use native.Mathlib.Omega.{arith}
 use Rattle.words.specs.Next.{said_word}
 use Rattle.clauses.proofs.HeadLaws.{name-first, name-onward, place_inside, row_read}
-use borrow.Author.Rules.{rules}
 use Rattle.clauses.proofs.rows.row_of.Goals as goal
 
 pub word_at-w-requires : goal.word_at-w-requires

@@ -3,7 +3,6 @@ use native.Mathlib.Omega.{arith}
 use Prim.Native.Nat.{◌+◌, ◌*◌}
 use lib.ListN.{length-set}
 use Rattle.clauses.proofs.RowLaws.{eight_stores}
-use borrow.Author.Rules.{rules}
 use Rattle.clauses.proofs.rows.store.Goals as goal
 
 pub bounds-work-c-2 : goal.bounds-work-c-2

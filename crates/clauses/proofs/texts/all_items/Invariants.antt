@@ -3,8 +3,7 @@
 use lib.ListN.{length}
 use Rattle.words.specs.Next.{said_word}
 use Rattle.words.specs.Lexed.{from}
-use Rattle.clauses.proofs.ItemLaws.{ReadingItems, reading-first, reading-held, reading-done, reading-bad, reading-more}
-use borrow.Author.Rules.{rules}
+use Rattle.clauses.proofs.ItemLaws.{ReadingItems}
 use Rattle.clauses.proofs.texts.all_items.Given as goal
 
 abbrev pub invariant-loop-w : goal.invariant-loop-w

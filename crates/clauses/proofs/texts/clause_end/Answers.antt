@@ -1,6 +1,5 @@
 -- `clauses::clause_end` meets its contract. Assumes nothing.
 use Rattle.clauses.proofs.ItemLaws.{clause_type, clause_term}
-use borrow.Author.Rules.{rules}
 use Rattle.clauses.proofs.texts.clause_end.Goals as goal
 
 pub returns-then-sort : goal.returns-then-sort

@@ -1,11 +1,9 @@
 -- `clauses::definitions` meets its contract. The invariant: the items up to here are definitions, whose clauses the table holds, and the rounds that are
 -- left are enough. The measure is the words that are left. Assumes nothing.
-use mathlib.Core.Path.{sym, ◌∙◌}
 use lib.ListN.{length}
 use Rattle.words.specs.Next.{said_word}
 use Rattle.words.specs.Lexed.{from}
-use Rattle.clauses.proofs.ItemLaws.{ReadingDefinitions, defining_first, defining_held, defining_done, defining-bad, defining-more}
-use borrow.Author.Rules.{rules}
+use Rattle.clauses.proofs.ItemLaws.{ReadingDefinitions}
 use Rattle.clauses.proofs.texts.definitions.Given as goal
 
 abbrev pub invariant-loop-work : goal.invariant-loop-work

@@ -1,7 +1,6 @@
 -- `clauses::says_second` meets its contract. Assumes nothing.
 use Rattle.words.specs.Next.{said_word}
 use Rattle.clauses.proofs.TextLaws.{says_none, edition_onward, says_value}
-use borrow.Author.Rules.{rules}
 use Rattle.clauses.proofs.texts.says_second.Goals as goal
 
 pub returns-then-w-ne-EDITION : goal.returns-then-w-ne-EDITION

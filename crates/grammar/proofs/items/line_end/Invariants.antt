@@ -6,11 +6,12 @@ use Rattle.calculus.specs.Answer.{good}
 use Rattle.words.specs.Lexed.{from}
 use Rattle.grammar.specs.Ends.{type_step}
 use Rattle.grammar.specs.Skips.{list_more, list_end}
-use Rattle.grammar.proofs.LoopLaws.{Loops, left_words}
+use Rattle.grammar.proofs.LoopLaws.{Loops}
 use Rattle.grammar.proofs.items.line_end.Given as goal
+use Rattle.std.proofs.Common.{Ok}
 
-abbrev pub invariant-loop-t : goal.invariant-loop-t
-invariant-loop-t l = (n : ℕ) → length (from l.text l.at) < n → Loops l.text (list_more (type_step l.more false)) (λ us. good us) (list_end (type_step l.more false) n (from l.text l.at)) (length (from l.text l.at)) l.t
+abbrev pub invariant-loop-c : goal.invariant-loop-c
+invariant-loop-c l = (n : ℕ) → length (from l.text l.at) < n → Loops l.text (list_more (type_step l.more false)) (λ us. good us) (list_end (type_step l.more false) n (from l.text l.at)) (length (from l.text l.at)) (Ok l.t)
 
-abbrev pub decreases-loop-t : goal.decreases-loop-t
-decreases-loop-t l = left_words l.text l.t
+abbrev pub decreases-loop-c : goal.decreases-loop-c
+decreases-loop-c l = length (from l.text l.t)

@@ -7,4 +7,4 @@ pub returns-then-w-sign : goal.returns-then-w-sign
 returns-then-w-sign c = λ text at s z. expect_good text at (said_word c.args.w) s c.args.sign c.if-w-sign.true z
 
 pub returns : goal.returns
-returns c = λ text at s z. expect_bad text at (said_word c.args.w) s c.args.sign c.if-w-sign.false c.refused.result c.refused.ensures
+returns c = λ text at s z. expect_bad text at (said_word c.args.w) s c.args.sign c.if-w-sign.false c.at.result c.at.ensures

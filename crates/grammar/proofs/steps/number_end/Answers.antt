@@ -13,4 +13,4 @@ pub returns-then-w-eq-NAME : goal.returns-then-w-eq-NAME
 returns-then-w-eq-NAME c = number-name c.args.text.now c.args.at (said_word c.word_at-w.result) c.word_at-w.ensures c.if-w-eq-NAME.true c.plus_end.result c.plus_end.ensures
 
 pub returns : goal.returns
-returns c = number_bad c.args.text.now c.args.at (said_word c.word_at-w.result) c.word_at-w.ensures c.if-w-eq-NUMBER.false c.if-w-eq-NAME.false c.refused.result c.refused.ensures
+returns c = number_bad c.args.text.now c.args.at (said_word c.word_at-w.result) c.word_at-w.ensures c.if-w-eq-NUMBER.false c.if-w-eq-NAME.false c.at.result c.at.ensures

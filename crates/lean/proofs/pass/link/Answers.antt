@@ -12,19 +12,16 @@ link_one-requires c =
     let l = c.loop-x in
     let size = c.requires.size in
     let few = c.requires.below in
-    let same = l.invariant.1.within.size in
-    (omega arith, (omega arith, source-here c.args.work.now l.work c.args.end l.x c.requires c.loop-x-test.true l.invariant.1))
+    let same = l.invariant.within.size in
+    (omega arith, (omega arith, source-here c.args.work.now l.work c.args.end l.x c.requires c.loop-x-test.true l.invariant))
 
 pub loop-x-preserved : goal.loop-x-preserved
 loop-x-preserved c =
     let l = c.loop-x in
-    (omega arith, subst (λ (v : List ℕ). Linked c.args.work.now (l.x + 1) v) (sym c.link_one.ensures) (link_next c.args.work.now l.work c.args.end l.x c.requires c.loop-x-test.true l.invariant.1 (link_in l.work l.x) refl))
-
-pub shape_of-work : goal.shape_of-work
-shape_of-work c = c.loop-x.invariant.1.within.size
+    subst (λ (v : List ℕ). Linked c.args.work.now (l.x + 1) v) (sym c.link_one.ensures) (link_next c.args.work.now l.work c.args.end l.x c.requires c.loop-x-test.true l.invariant (link_in l.work l.x) refl)
 
 pub returns : goal.returns
 returns c =
     let l = c.loop-x in
     let e : l.x ≡ c.args.end = omega arith in
-    subst (λ (k : ℕ). Linked c.args.work.now k l.work) e l.invariant.1
+    subst (λ (k : ℕ). Linked c.args.work.now k l.work) e l.invariant

@@ -1,28 +1,15 @@
 -- By the kind. Assumes nothing.
-use native.Mathlib.Omega.{arith}
 use mathlib.Core.Path.{◌∙◌, ap}
 use Prim.Native.Nat.{ℕ, ◌+◌}
-use Rattle.lean.proofs.KindLaws.{first_low, output-low, point_low, after-output}
+use Rattle.lean.proofs.KindLaws.{point_low, after-output}
 use Rattle.lean.proofs.PassLaws.{name_point, name-part}
 use Rattle.lean.proofs.pass.name_one.Goals as goal
 
 pub name_point-requires : goal.name_point-requires
 name_point-requires c = (c.requires.0, point_low c.args.kind c.args.n 8192 c.if-kind-eq-POINT.true c.requires.1.1)
 
-pub overflow_add-result : goal.overflow_add-result
-overflow_add-result c = omega (arith, first_low c.args.kind c.args.n 8192 c.requires.1.1)
-
 pub returns-then-kind-eq-POINT : goal.returns-then-kind-eq-POINT
 returns-then-kind-eq-POINT c = let a = c.args in let z = name_point a.work.now a.kind a.n c.if-kind-eq-POINT.true in (z.0, c.name_point.ensures ∙ z.1)
-
-pub output_of-o-requires : goal.output_of-o-requires
-output_of-o-requires c = omega (arith, first_low c.args.kind c.args.n 8192 c.requires.1.1)
-
-pub bounds-work-o : goal.bounds-work-o
-bounds-work-o c = let e = c.output_of-o.ensures in omega (arith, output-low c.args.kind c.args.n 8192 c.requires.1.1)
-
-pub overflow_add-result-2 : goal.overflow_add-result-2
-overflow_add-result-2 c = let e = c.output_of-o.ensures in omega (arith, output-low c.args.kind c.args.n 8192 c.requires.1.1)
 
 pub returns : goal.returns
 returns c =

@@ -6,39 +6,20 @@ use Rattle.lean.specs.Layout.{Pinned}
 use Rattle.lean.proofs.PassLaws.{pin_next, pin_ready}
 use Rattle.lean.proofs.pass.root_pins.Goals as goal
 
-pub bounds-work-j : goal.bounds-work-j
-bounds-work-j c =
-    let l = c.loop-j in
-    let size = c.requires.size in
-    let few = c.requires.few in
-    let same = l.invariant.1.size in
-    omega arith
-
 pub rooted-requires : goal.rooted-requires
 rooted-requires c =
     let l = c.loop-j in
     let size = c.requires.size in
-    let same = l.invariant.1.size in
-    (omega arith, pin_ready c.args.work.now l.work c.args.pins l.j c.requires c.loop-j-test.true l.invariant.1)
-
-pub bounds-work-j-in-loop-j : goal.bounds-work-j-in-loop-j
-bounds-work-j-in-loop-j c =
-    let l = c.loop-j in
-    let size = c.requires.size in
-    let few = c.requires.few in
-    let same = l.invariant.1.size in
-    omega arith
+    let same = l.invariant.size in
+    (omega arith, pin_ready c.args.work.now l.work c.args.pins l.j c.requires c.loop-j-test.true l.invariant)
 
 pub loop-j-preserved : goal.loop-j-preserved
 loop-j-preserved c =
     let l = c.loop-j in
-    (omega arith, pin_next c.args.work.now l.work c.args.pins l.j c.requires c.loop-j-test.true l.invariant.1 c.rooted.result c.rooted.ensures)
-
-pub shape_of-work : goal.shape_of-work
-shape_of-work c = c.loop-j.invariant.1.size
+    pin_next c.args.work.now l.work c.args.pins l.j c.requires c.loop-j-test.true l.invariant c.rooted.result c.rooted.ensures
 
 pub returns : goal.returns
 returns c =
     let l = c.loop-j in
     let e : l.j ≡ c.args.pins = omega arith in
-    subst (λ (k : ℕ). Pinned c.args.work.now k l.work) e l.invariant.1
+    subst (λ (k : ℕ). Pinned c.args.work.now k l.work) e l.invariant

@@ -16,12 +16,6 @@ returns-else-v-eq0 c = (size-wire c.args.plain [] _ c.if-v-lt-KIND.true c.if-v-e
 pub returns-then-v-ge-LEFT_OUT : goal.returns-then-v-ge-LEFT_OUT
 returns-then-v-ge-LEFT_OUT c = (size-left c.args.plain [] _ c.if-v-ge-LEFT_OUT.true, omega arith)
 
-pub overflow_add-result : goal.overflow_add-result
-overflow_add-result c = let e = c.requires in omega (arith, node_small c.args.plain 1)
-
-pub overflow_add-result-else-v : goal.overflow_add-result-else-v
-overflow_add-result-else-v c = let e = c.requires in omega (arith, node_small c.args.plain 1)
-
 pub returns-then-v : goal.returns-then-v
 returns-then-v c =
     let e = c.requires in

@@ -7,21 +7,15 @@ use Rattle.lean.proofs.DriverLaws.{output-below}
 use Rattle.lean.proofs.table.back_of.Goals as goal
 
 -- x is at least 1 and below 8,192
-pub overflow_sub-result : goal.overflow_sub-result
-overflow_sub-result c =
-    let a = c.args in
-    let l : 1 ≤ a.x.0 = (c.requires.0.loose a.x.0 c.requires.1.0 c.requires.1.1).0 in
-    omega arith
-
 pub offset_bounds-work-x : goal.offset_bounds-work-x
 offset_bounds-work-x c =
     let a = c.args in
-    let l : a.x.0 < 8192 = output-below a.work.now a.elements a.wires a.pins c.requires.0.ready a.x.0 c.requires.1.0 in
+    let l : a.x.0 < 8192 = output-below a.work.now a.full.elements a.full.wires a.full.pins c.requires.0.ready a.x.0 c.requires.1.0 in
     omega arith
 
 pub bounds-work-x : goal.bounds-work-x
 bounds-work-x c =
     let a = c.args in
     let z : memory_size ≤ length a.work.now = c.requires.0.ready.size in
-    let l : a.x.0 < 8192 = output-below a.work.now a.elements a.wires a.pins c.requires.0.ready a.x.0 c.requires.1.0 in
+    let l : a.x.0 < 8192 = output-below a.work.now a.full.elements a.full.wires a.full.pins c.requires.0.ready a.x.0 c.requires.1.0 in
     omega arith

@@ -1,22 +1,18 @@
--- The invariant: the entries before i are 0, and the others as they were. Assumes nothing.
+-- The table is filled at once. Assumes nothing.
 use native.Mathlib.Omega.{arith}
-use Rattle.lean.proofs.TableLaws.{within_none, within_then, within-set, blank-more}
+use Prim.Native.Nat.{ℕ, ◌+◌, ◌≤◌}
+use mathlib.Core.Path.{refl, sym, ap, ◌∙◌, subst}
+use mathlib.Core.List.{List, ◌++◌}
+use lib.ListN.{length, take, drop, replicate}
+use Rattle.laws.proofs.Regions.{region-length}
+use Rattle.memory.specs.Map.{roots_at}
+use Rattle.lean.specs.Table.{Blank}
+use Rattle.lean.proofs.TableLaws.{filled, blanked}
 use Rattle.lean.proofs.table.blank.Goals as goal
 
-pub loop-i-init : goal.loop-i-init
-loop-i-init c = (omega arith, (within_none _, λ x h. absurd (omega arith)))
-
-pub bounds-work-i : goal.bounds-work-i
-bounds-work-i c = let s = c.loop-i.invariant.1.0.size in omega arith
-
-pub loop-i-preserved : goal.loop-i-preserved
-loop-i-preserved c =
-    let l = c.loop-i in
-    let s = l.invariant.1.0.size in
-    (omega arith, (within_then l.invariant.1.0 (within-set l.work l.i 0 (omega arith)), blank-more l.work l.i (omega arith) (omega arith) l.invariant.1.1))
-
-pub shape_of-work : goal.shape_of-work
-shape_of-work c = c.loop-i.invariant.1.0.size
-
 pub returns : goal.returns
-returns c = let l = c.loop-i in record { within = l.invariant.1.0; none = λ x h. l.invariant.1.1 x (omega arith) }
+returns c =
+    let w = c.args.work.now in
+    let h : roots_at + 8192 ≤ length w = omega arith in
+    let e = c.fill.ensures.after (λ y z. z) ∙ ap (λ (n : ℕ). replicate n 0) (region-length w roots_at 8192 h) in
+    subst (Blank w) (sym (ap (λ (x : List ℕ). take roots_at w ++ (x ++ drop 8192 (drop roots_at w))) e ∙ filled w roots_at 8192 h)) (blanked w 8192 refl c.requires)

@@ -6,7 +6,7 @@ use Rattle.lean.proofs.RoundLaws.{Meeting}
 use Rattle.lean.proofs.table.meet.Given as goal
 
 abbrev pub invariant-loop-span : goal.invariant-loop-span
-invariant-loop-span l = (l.span ≤ 16384) × Meeting (net_in l.work l.elements l.wires l.pins) l.initial.mark.0 l.mark.0 l.span
+invariant-loop-span l = (l.span ≤ 16384) × Meeting (net_in l.work l.full.elements l.full.wires l.full.pins) l.initial.mark.0 l.mark.0 l.span
 
 abbrev pub decreases-loop-span : goal.decreases-loop-span
 decreases-loop-span l = 16384 - l.span

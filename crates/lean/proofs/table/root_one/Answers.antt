@@ -2,20 +2,20 @@
 use Rattle.lean.proofs.SettleLaws.{loose_out, settled_near}
 use Rattle.lean.proofs.table.root_one.Goals as goal
 
-pub near-r-requires : goal.near-r-requires
-near-r-requires c =
+pub near-requires : goal.near-requires
+near-requires c =
     let a = c.args in
     let z = c.if-work-n.true in
-    (c.requires.0, (loose_out a.work.now a.elements a.wires a.pins c.requires.0 a.n c.requires.1 z, z))
+    (c.requires.0, (loose_out a.work.now a.full.elements a.full.wires a.full.pins c.requires.0 a.n c.requires.1 z, z))
 
 pub root_far-requires : goal.root_far-requires
 root_far-requires c =
     let a = c.args in
-    (c.requires.0, loose_out a.work.now a.elements a.wires a.pins c.requires.0 a.n c.requires.1 c.if-work-n.true)
+    (c.requires.0, loose_out a.work.now a.full.elements a.full.wires a.full.pins c.requires.0 a.n c.requires.1 c.if-work-n.true)
 
-pub returns-else-r : goal.returns-else-r
-returns-else-r c =
+pub returns-in-Some : goal.returns-in-Some
+returns-in-Some c =
     let a = c.args in
     let z = c.if-work-n.true in
-    settled_near a.work.now a.elements a.wires a.pins a.n c.requires.0 (loose_out a.work.now a.elements a.wires a.pins c.requires.0 a.n c.requires.1 z) z
-    c.near-r.result (c.near-r.ensures c.if-r.false)
+    settled_near a.work.now a.full.elements a.full.wires a.full.pins a.n c.requires.0 (loose_out a.work.now a.full.elements a.full.wires a.full.pins c.requires.0 a.n c.requires.1 z) z
+    c.in-Some.r.0 c.in-Some.ensures

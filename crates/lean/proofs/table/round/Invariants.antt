@@ -4,9 +4,6 @@ use Rattle.memory.specs.Map.{net_in}
 use Rattle.lean.proofs.RoundLaws.{Rounding}
 use Rattle.lean.proofs.table.round.Given as goal
 
-abbrev pub invariant-loop-left : goal.invariant-loop-left
-invariant-loop-left l =
-    (l.x.0 < 8192) × ((l.low.0 < 8192) × Rounding l.work (net_in l.work l.elements l.wires l.pins) l.o.0 l.x.0 l.low.0 l.left)
-
-abbrev pub decreases-loop-left : goal.decreases-loop-left
-decreases-loop-left l = l.left
+abbrev pub invariant-loop : goal.invariant-loop
+invariant-loop l =
+    (l.x.0 < 8192) × ((l.low.0 < 8192) × Rounding l.work (net_in l.work l.full.elements l.full.wires l.full.pins) l.o.0 l.x.0 l.low.0 l.counter)

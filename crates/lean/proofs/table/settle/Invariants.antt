@@ -5,9 +5,6 @@ use Rattle.memory.specs.Map.{memory_size}
 use Rattle.lean.proofs.SettleLaws.{SettlingOne}
 use Rattle.lean.proofs.table.settle.Given as goal
 
-abbrev pub invariant-loop-left : goal.invariant-loop-left
-invariant-loop-left l =
-    ((l.x.0 < 8192) × (memory_size ≤ length l.work)) × SettlingOne l.initial.work l.work l.elements l.wires l.pins l.initial.x.0 l.r.0 l.x.0 l.left
-
-abbrev pub decreases-loop-left : goal.decreases-loop-left
-decreases-loop-left l = l.left
+abbrev pub invariant-loop : goal.invariant-loop
+invariant-loop l =
+    ((l.x.0 < 8192) × (memory_size ≤ length l.work)) × SettlingOne l.initial.work l.work l.full.elements l.full.wires l.full.pins l.initial.x.0 l.r.0 l.x.0 l.counter

@@ -2,24 +2,13 @@
 use native.Mathlib.Omega.{arith}
 use mathlib.Core.Path.{◌∙◌, ap}
 use Prim.Native.Nat.{ℕ, ◌<◌, ◌+◌}
-use Rattle.lean.proofs.KindLaws.{first_low, output-low, after-output}
+use Rattle.lean.proofs.KindLaws.{first_low, after-output}
 use Rattle.lean.proofs.table.start_one.Goals as goal
 
 pub output_of-o-requires : goal.output_of-o-requires
 output_of-o-requires c =
     let h : c.args.n < 8192 = first_low c.args.kind c.args.n _ c.requires.1 in
     omega arith
-
-pub bounds-work-o : goal.bounds-work-o
-bounds-work-o c =
-    let z = c.requires.0 in
-    let e = c.output_of-o.ensures in
-    omega (arith, output-low c.args.kind c.args.n 8192 c.requires.1)
-
-pub overflow_add-result : goal.overflow_add-result
-overflow_add-result c =
-    let e = c.output_of-o.ensures in
-    omega (arith, output-low c.args.kind c.args.n 8192 c.requires.1)
 
 pub returns : goal.returns
 returns c =

@@ -4,6 +4,3 @@ use Rattle.made_nodes.proofs.binders.functions.Given as goal
 
 abbrev pub invariant-loop-left : goal.invariant-loop-left
 invariant-loop-left l = FunctionsGoing l.initial.work l.from l.count l.t l.initial.f l.work l.f l.left
-
-abbrev pub decreases-loop-left : goal.decreases-loop-left
-decreases-loop-left l = l.left

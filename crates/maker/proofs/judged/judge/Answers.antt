@@ -17,7 +17,7 @@ cost_of-cost-requires c =
 
 pub returns-then-not-count_put : goal.returns-then-not-count_put
 returns-then-not-count_put c =
-    judge-full c.args.text.now c.args.work.now c.args.k c.requires c.row_at-r.result c.row_at-r.ensures c.is_judged.result c.is_judged.ensures (not-false _ c.if-not-is_judged.false-raw) c.cost_of-cost.result c.cost_of-cost.ensures _ c.count_put.result c.count_put.ensures (not-true _ c.if-not-count_put.true-raw)
+    rw c.at.ensures (judge-full c.args.text.now c.args.work.now c.args.k c.requires c.row_at-r.result c.row_at-r.ensures c.is_judged.result c.is_judged.ensures (not-false _ c.if-not-is_judged.false-raw) c.cost_of-cost.result c.cost_of-cost.ensures _ c.count_put.result c.count_put.ensures (not-true _ c.if-not-count_put.true-raw))
 
 pub tried-requires : goal.tried-requires
 tried-requires c =

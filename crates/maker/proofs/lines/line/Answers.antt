@@ -1,10 +1,6 @@
 -- The text's own scope is set, and the types of the line are worked out in it. Assumes nothing.
-use Rattle.maker.proofs.LineLaws.{line_low, line-types, line-says}
+use Rattle.maker.proofs.LineLaws.{line-types, line-says}
 use Rattle.maker.proofs.lines.line.Goals as goal
-
-pub know-requires : goal.know-requires
-know-requires c =
-    (line_low c.args.text.now c.args.work.now c.args.start c.args.seen c.requires, c.requires.stands.room)
 
 pub types-requires : goal.types-requires
 types-requires c =

@@ -5,8 +5,8 @@ use Rattle.words.specs.Lexed.{from}
 use Rattle.maker.proofs.ItemSteps.{ItemsGoing}
 use Rattle.maker.proofs.lines.lines.Given as goal
 
-abbrev pub invariant-loop-next : goal.invariant-loop-next
-invariant-loop-next l = ItemsGoing l.text l.initial.work l.start l.above l.work l.at l.seen
+abbrev pub invariant-loop-past : goal.invariant-loop-past
+invariant-loop-past l = ItemsGoing l.text l.initial.work l.start l.above l.work l.at l.seen
 
-abbrev pub decreases-loop-next : goal.decreases-loop-next
-decreases-loop-next l = length (from l.text l.at)
+abbrev pub decreases-loop-past : goal.decreases-loop-past
+decreases-loop-past l = length (from l.text l.at)

@@ -1,7 +1,6 @@
--- `putting::first_main` meets its contract. The invariant: no row that was passed is one of `main`. The measure is how many are left. Assumes
--- nothing.
+-- `putting::first_main` meets its contract. The invariant: no row that was passed is one of `main`. Assumes nothing.
 use Prim.Native.Nat.{ℕ, ◌≤◌}
-use mathlib.Core.Path.{sym, ap, ◌∙◌, subst}
+use mathlib.Core.Path.{◌≡◌, sym, ap, ◌∙◌, subst}
 use native.Mathlib.Omega.{arith}
 use lib.ListN.{length}
 use Rattle.clauses.specs.declared.rows.Row.{Row}
@@ -22,14 +21,8 @@ is_main-requires c = subst (λ (r : Row). r.name ≤ length c.args.text.now) (sy
 pub returns-then-is_main : goal.returns-then-is_main
 returns-then-is_main c = searching-found (λ (j : ℕ). row_main c.args.text.now (row_in c.args.work.now j)) c.args.n c.loop-k.k c.loop-k.invariant c.loop-k-test.true (ap (row_main c.args.text.now) (sym c.row_at-r.ensures) ∙ sym c.is_main.ensures ∙ c.if-is_main.true)
 
-pub overflow_add-k : goal.overflow_add-k
-overflow_add-k c = omega arith
-
-pub loop-k-smaller : goal.loop-k-smaller
-loop-k-smaller c = omega arith
-
 pub loop-k-preserved : goal.loop-k-preserved
 loop-k-preserved c = searching-more (λ (j : ℕ). row_main c.args.text.now (row_in c.args.work.now j)) c.args.n c.loop-k.k c.loop-k.invariant c.loop-k-test.true (ap (row_main c.args.text.now) (sym c.row_at-r.ensures) ∙ sym c.is_main.ensures ∙ c.if-is_main.false)
 
 pub returns : goal.returns
-returns c = searching-all (λ (j : ℕ). row_main c.args.text.now (row_in c.args.work.now j)) c.args.n c.loop-k.k c.loop-k.invariant c.loop-k-test.false
+returns c = let e : c.args.n ≡ c.loop-k.k = omega (arith, c.loop-k.invariant.most) in e ∙ searching-all (λ (j : ℕ). row_main c.args.text.now (row_in c.args.work.now j)) c.args.n c.loop-k.k c.loop-k.invariant c.loop-k-test.false

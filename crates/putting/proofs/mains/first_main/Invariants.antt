@@ -1,6 +1,5 @@
--- `putting::first_main` meets its contract. The invariant: no row that was passed is one of `main`. The measure is how many are left. Assumes
--- nothing.
-use Prim.Native.Nat.{ℕ, ◌-◌}
+-- `putting::first_main` meets its contract. The invariant: no row that was passed is one of `main`. Assumes nothing.
+use Prim.Native.Nat.{ℕ}
 use Rattle.clauses.specs.Rows.{row_in}
 use Rattle.putting.specs.Main.{row_main}
 use Rattle.putting.proofs.FirstLaws.{Searching}
@@ -8,6 +7,3 @@ use Rattle.putting.proofs.mains.first_main.Given as goal
 
 abbrev pub invariant-loop-k : goal.invariant-loop-k
 invariant-loop-k l = Searching (λ (j : ℕ). row_main l.text (row_in l.work j)) l.n l.k
-
-abbrev pub decreases-loop-k : goal.decreases-loop-k
-decreases-loop-k l = l.n - l.k

@@ -1,9 +1,7 @@
 -- `scopes::bind` meets its contract: two stores. Assumes nothing.
-use mathlib.Core.Path.{refl}
 use native.Mathlib.Omega.{arith}
 use lib.ListN.{length-set}
 use Rattle.scopes.proofs.KeepLaws.{entry-stored}
-use borrow.Author.Rules.{rules}
 use Rattle.scopes.proofs.entries.bind.Goals as goal
 
 pub bounds-work-at-2 : goal.bounds-work-at-2

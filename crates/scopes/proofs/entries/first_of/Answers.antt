@@ -1,10 +1,9 @@
--- `scopes::first_of` meets its contract. The invariant: the entries that are left decide. The measure is how many are left. Assumes nothing.
-use Prim.Native.Nat.{ℕ, ◌-◌, ◌≤◌}
+-- `scopes::first_of` meets its contract. The invariant: the entries that are left decide. Assumes nothing.
+use Prim.Native.Nat.{ℕ, ◌≤◌}
 use mathlib.Core.Path.{sym, subst, ◌∙◌}
 use native.Mathlib.Omega.{arith}
 use lib.ListN.{length}
-use Rattle.scopes.proofs.EntryLaws.{FirstLeft, first-none, first_found, first_more, first-all}
-use borrow.Author.Rules.{rules}
+use Rattle.scopes.proofs.EntryLaws.{first-none, first_found, first_more, first-all}
 use Rattle.scopes.proofs.entries.first_of.Goals as goal
 
 pub long_of-long-requires : goal.long_of-long-requires

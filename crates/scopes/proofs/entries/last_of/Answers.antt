@@ -1,10 +1,9 @@
--- `scopes::last_of` meets its contract. The invariant: the entries that are left decide. The measure is how many are left. Assumes nothing.
-use Prim.Native.Nat.{ℕ, ◌-◌, ◌≤◌}
-use mathlib.Core.Path.{sym, subst, ◌∙◌}
+-- `scopes::last_of` meets its contract. The invariant: the entries that are left decide. Assumes nothing.
+use Prim.Native.Nat.{ℕ, ◌+◌, ◌-◌, ◌≤◌}
+use mathlib.Core.Path.{◌≡◌, sym, subst, ◌∙◌}
 use native.Mathlib.Omega.{arith}
 use lib.ListN.{length}
-use Rattle.scopes.proofs.EntryLaws.{LastLeft, last_none, last_found, last_more, last-all}
-use borrow.Author.Rules.{rules}
+use Rattle.scopes.proofs.EntryLaws.{last_none, last_found, last_more, last-all}
 use Rattle.scopes.proofs.entries.last_of.Goals as goal
 
 pub long_of-long-requires : goal.long_of-long-requires
@@ -25,7 +24,9 @@ pub returns-then-is_name : goal.returns-then-is_name
 returns-then-is_name c =
     let l = c.loop-e in
     let p = c.place_of-p in
-    last_found c.args.text.now c.args.work.now c.args.name c.args.from c.args.to l.e l.invariant c.loop-e-test.true p.result p.ensures (sym c.is_name.ensures ∙ c.if-is_name.true)
+    let test = c.loop-e-test.true in
+    let back : l.e - 1 + 1 ≡ l.e = omega arith in
+    back ∙ last_found c.args.text.now c.args.work.now c.args.name c.args.from c.args.to l.e l.invariant c.loop-e-test.true p.result p.ensures (sym c.is_name.ensures ∙ c.if-is_name.true)
 
 pub loop-e-preserved : goal.loop-e-preserved
 loop-e-preserved c =

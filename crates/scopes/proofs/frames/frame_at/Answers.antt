@@ -1,7 +1,6 @@
 -- `scopes::frame_at` meets its contract: number by number. Assumes nothing.
 use Rattle.scopes.specs.Frames.{frame_in}
 use Rattle.scopes.proofs.EntryLaws.{frame_parts}
-use borrow.Author.Rules.{rules}
 use Rattle.scopes.proofs.frames.frame_at.Goals as goal
 
 pub returns : goal.returns

@@ -3,7 +3,6 @@ use Prim.Native.Nat.{◌+◌, ◌*◌}
 use native.Mathlib.Omega.{arith}
 use lib.ListN.{length-set}
 use Rattle.scopes.proofs.EntryLaws.{four_stores}
-use borrow.Author.Rules.{rules}
 use Rattle.scopes.proofs.frames.set_frame.Goals as goal
 
 pub bounds-work-at-2 : goal.bounds-work-at-2

@@ -1,12 +1,10 @@
--- `scopes::name_numbers` meets its contract. The invariant: the entries that were named and the numbers that are left are the scope's numbers.
--- The measure is how many are left. Assumes nothing.
-use Prim.Native.Nat.{ℕ, ◌+◌, ◌-◌}
+-- `scopes::name_numbers` meets its contract. The invariant: the entries that were named and the numbers that are left are the scope's numbers. Assumes nothing.
+use Prim.Native.Nat.{ℕ, ◌+◌}
 use mathlib.Core.Path.{sym, subst}
 use mathlib.Core.List.{List}
 use native.Mathlib.Omega.{arith}
 use Rattle.clauses.proofs.NumberLaws.{number_there}
 use Rattle.scopes.proofs.NamedLaws.{naming_room, NamingNumbers, numbers-none, numbers-done, place-there, numbers_more, value_small}
-use borrow.Author.Rules.{rules}
 use Rattle.scopes.proofs.named.name_numbers.Goals as goal
 
 pub loop-i-init : goal.loop-i-init

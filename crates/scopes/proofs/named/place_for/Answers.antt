@@ -1,6 +1,5 @@
 -- `scopes::place_for` meets its contract. Assumes nothing.
 use Rattle.scopes.proofs.NamedLaws.{place_yes, place_no}
-use borrow.Author.Rules.{rules}
 use Rattle.scopes.proofs.named.place_for.Goals as goal
 
 pub returns-then-k : goal.returns-then-k

@@ -1,7 +1,6 @@
 -- `scopes::open` meets its contract: the names, then the frame. Assumes nothing.
 use native.Mathlib.Omega.{arith}
 use Rattle.scopes.proofs.OpenLaws.{open_rows, open_small, open-types, open-numbers, open-room, open-seen, opened}
-use borrow.Author.Rules.{rules}
 use Rattle.scopes.proofs.opened.open.Goals as goal
 
 pub row_at-c-requires : goal.row_at-c-requires

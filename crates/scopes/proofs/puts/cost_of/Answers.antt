@@ -1,6 +1,5 @@
 -- `scopes::cost_of` meets its contract. Assumes nothing.
 use Rattle.scopes.proofs.PutLaws.{cost_none, cost_some}
-use borrow.Author.Rules.{rules}
 use Rattle.scopes.proofs.puts.cost_of.Goals as goal
 
 pub returns-then-start-r : goal.returns-then-start-r

@@ -1,7 +1,6 @@
 -- `scopes::count_put` meets its contract. Assumes nothing.
 use native.Mathlib.Omega.{arith}
 use Rattle.scopes.proofs.PutLaws.{put_full, put-counted}
-use borrow.Author.Rules.{rules}
 use Rattle.scopes.proofs.puts.count_put.Goals as goal
 
 pub returns-then-cost-gt32767 : goal.returns-then-cost-gt32767

@@ -1,4 +1,4 @@
--- `sheet::among` meets its contract. The invariant: what is found is found among the first t. The measure is the keys left. Assumes nothing.
+-- `sheet::among` meets its contract. The invariant: what is found is found among the first t. Assumes nothing.
 use borrow.Author.Rules.{rules}
 use mathlib.Core.Path.{sym, ap, ◌∙◌}
 use mathlib.Core.Bool.{Bool, ◌||◌}
@@ -9,7 +9,7 @@ use Rattle.sheet.proofs.KeyLaws.{among-more, among_none, among-all}
 use Rattle.sheet.proofs.keys.among.Goals as goal
 
 pub loop-t-init : goal.loop-t-init
-loop-t-init c = (omega arith, among_none _ _)
+loop-t-init c = among_none _ _
 
 pub offset_bounds-keys-t : goal.offset_bounds-keys-t
 offset_bounds-keys-t c = let l = c.loop-t-test.true in let k = c.requires in search rules
@@ -17,22 +17,14 @@ offset_bounds-keys-t c = let l = c.loop-t-test.true in let k = c.requires in sea
 pub bounds-keys-t : goal.bounds-keys-t
 bounds-keys-t c = omega (arith, c.loop-t-test.true, c.requires)
 
-pub overflow_add-t : goal.overflow_add-t
-overflow_add-t c = record { fits = omega (arith, c.loop-t-test.true, c.requires) }
-
-pub loop-t-smaller : goal.loop-t-smaller
-loop-t-smaller c = let l = c.loop-t-test.true in omega arith
-
 pub loop-t-preserved : goal.loop-t-preserved
 loop-t-preserved c =
     let l = c.loop-t in
-    let a = c.args in (
-      omega (arith, c.loop-t-test.true),
-      c.either-found.ensures ∙ ap (λ (b : Bool). b || eqb (get_or a.keys.now l.t 0) a.key) l.invariant.1 ∙ sym (among-more a.keys.now l.t a.key),
-    )
+    let a = c.args in
+    c.either-found.ensures ∙ ap (λ (b : Bool). b || eqb (get_or a.keys.now l.t 0) a.key) l.invariant ∙ sym (among-more a.keys.now l.t a.key)
 
 pub returns : goal.returns
 returns c =
     let l = c.loop-t in
     let a = c.args in
-    l.invariant.1 ∙ among-all a.keys.now a.key l.invariant.0 c.loop-t-test.false
+    l.invariant ∙ among-all a.keys.now a.key (omega arith) c.loop-t-test.false

@@ -1,11 +1,7 @@
--- `sheet::among` meets its contract. The invariant: what is found is found among the first t. The measure is the keys left. Assumes nothing.
-use Prim.Native.Nat.{◌-◌, ◌≤◌}
+-- `sheet::among` meets its contract. The invariant: what is found is found among the first t. Assumes nothing.
 use mathlib.Core.Path.{◌≡◌}
 use Rattle.sheet.specs.Keys.{among_first}
 use Rattle.sheet.proofs.keys.among.Given as goal
 
 abbrev pub invariant-loop-t : goal.invariant-loop-t
-invariant-loop-t l = (l.t ≤ l.count) × (l.found ≡ among_first l.keys l.t l.key)
-
-abbrev pub decreases-loop-t : goal.decreases-loop-t
-decreases-loop-t l = l.count - l.t
+invariant-loop-t l = l.found ≡ among_first l.keys l.t l.key

@@ -8,22 +8,23 @@ use Rattle.records.proofs.ToldLaws.{sizes-length}
 use Rattle.sheet.proofs.types.check_type.Goals as goal
 
 pub returns-then-count-ge-MOST_TYPES : goal.returns-then-count-ge-MOST_TYPES
-returns-then-count-ge-MOST_TYPES c = check_many c.requires.0 _ _ c.if-count-ge-MOST_TYPES.true
+returns-then-count-ge-MOST_TYPES c =
+    rw c.at.ensures (check_many c.requires.0 _ _ c.if-count-ge-MOST_TYPES.true)
 
 pub returns-then-not-numbers : goal.returns-then-not-numbers
 returns-then-not-numbers c =
-    check-unknown c.requires.0 _ _ c.if-count-ge-MOST_TYPES.false (sym c.known-numbers.ensures ∙ not-true _ c.if-not-numbers.true-raw)
+    rw c.at-then-not-numbers.ensures (check-unknown c.requires.0 _ _ c.if-count-ge-MOST_TYPES.false (sym c.known-numbers.ensures ∙ not-true _ c.if-not-numbers.true-raw))
 
 pub returns-then-not-form : goal.returns-then-not-form
 returns-then-not-form c =
-    check-misformed c.requires.0 _ _ c.if-count-ge-MOST_TYPES.false (sym c.known-numbers.ensures ∙ not-false _ c.if-not-numbers.false-raw) (sym c.formed-form.ensures ∙ not-true _ c.if-not-form.true-raw)
+    rw c.at-then-not-form.ensures (check-misformed c.requires.0 _ _ c.if-count-ge-MOST_TYPES.false (sym c.known-numbers.ensures ∙ not-false _ c.if-not-numbers.false-raw) (sym c.formed-form.ensures ∙ not-true _ c.if-not-form.true-raw))
 
 pub repeats_by-requires : goal.repeats_by-requires
 repeats_by-requires c = (omega (arith, c.if-count-ge-MOST_TYPES.false), c.requires.1)
 
 pub returns-then-repeats_by : goal.returns-then-repeats_by
 returns-then-repeats_by c =
-    check-again c.requires.0 _ _ c.if-count-ge-MOST_TYPES.false (sym c.known-numbers.ensures ∙ not-false _ c.if-not-numbers.false-raw) (sym c.formed-form.ensures ∙ not-false _ c.if-not-form.false-raw) (sym c.repeats_by.ensures ∙ c.if-repeats_by.true)
+    rw c.at-then-repeats_by.ensures (check-again c.requires.0 _ _ c.if-count-ge-MOST_TYPES.false (sym c.known-numbers.ensures ∙ not-false _ c.if-not-numbers.false-raw) (sym c.formed-form.ensures ∙ not-false _ c.if-not-form.false-raw) (sym c.repeats_by.ensures ∙ c.if-repeats_by.true))
 
 pub size_of-size-requires : goal.size_of-size-requires
 size_of-size-requires c =
@@ -31,8 +32,8 @@ size_of-size-requires c =
 
 pub returns-then-size-gt-LARGEST_SIZE : goal.returns-then-size-gt-LARGEST_SIZE
 returns-then-size-gt-LARGEST_SIZE c =
-    check-large c.requires.0 _ _ c.if-count-ge-MOST_TYPES.false (sym c.known-numbers.ensures ∙ not-false _ c.if-not-numbers.false-raw) (sym c.formed-form.ensures ∙ not-false _ c.if-not-form.false-raw) (sym c.repeats_by.ensures ∙ c.if-repeats_by.false)
-    (rw c.size_of-size.ensures at c.if-size-gt-LARGEST_SIZE.true)
+    rw c.at-then-size-gt-LARGEST_SIZE.ensures (check-large c.requires.0 _ _ c.if-count-ge-MOST_TYPES.false (sym c.known-numbers.ensures ∙ not-false _ c.if-not-numbers.false-raw) (sym c.formed-form.ensures ∙ not-false _ c.if-not-form.false-raw) (sym c.repeats_by.ensures ∙ c.if-repeats_by.false)
+    (rw c.size_of-size.ensures at c.if-size-gt-LARGEST_SIZE.true))
 
 pub returns : goal.returns
 returns c =

@@ -13,10 +13,12 @@ use Rattle.sheet.specs.Tables.{table_in, size_of, said_checked}
 use Rattle.sheet.specs.Keys.{key_of}
 use Rattle.sheet.proofs.TableLaws.{table-count}
 use Rattle.records.proofs.ToldLaws.{sizes-length}
-use Rattle.sheet.proofs.TypesLaws.{SoFar, first, next-type, type_is, type_refused, types-stop}
+use Rattle.sheet.proofs.TypesLaws.{SoFar, first, next-type, type_is, type_refused, types-cut_off, types-done}
 use Rattle.sheet.proofs.KeyLaws.{keyed_more}
 use Rattle.sheet.proofs.KindLaws.{type_here_lem}
-use borrow.Enum.Refused.{opened}
+use Rattle.std.specs.declared.result.Result.TheVariants.{Ok}
+use Rattle.answers.proofs.Passed.{passed}
+use Rattle.sheet.specs.Said.{said_types}
 use Rattle.sheet.proofs.types.read_types.Goals as goal
 
 -- the types so far are 256 at most, and fewer where one more is taken
@@ -29,8 +31,10 @@ one_more {s} {sizes} {at} {count} i = let n = i.before.ok.few in omega (arith, t
 pub loop-f-init : goal.loop-f-init
 loop-f-init c = (rw c.no_sizes-sizes.ensures (first c.args.s.now), (λ t h. absurd (omega arith)), ap length c.no_keys-keys.ensures ∙ length-replicate {A = ℕ} 256 0)
 
-pub returns-in_default : goal.returns-in_default
-returns-in_default c = let l = c.loop-f in c.types_end.ensures ∙ types-stop c.args.s.now l.at l.count l.sizes l.invariant.0 c.record_at-r.ensures (opened c.in_default.in_default-own.keys2)
+pub returns-in_err-f : goal.returns-in_err-f
+returns-in_err-f c =
+    let l = c.loop-f in
+    ap said_types (passed _ c.from_residual.ensures.1) ∙ types-cut_off c.args.s.now l.at l.count l.sizes l.invariant.0 (sym c.record_at.ensures ∙ c.in_err-f.was)
 
 pub slice_bounds-check_type-end : goal.slice_bounds-check_type-end
 slice_bounds-check_type-end c =
@@ -40,22 +44,22 @@ slice_bounds-check_type-end c =
 pub check_type-requires : goal.check_type-requires
 check_type-requires c = let i = c.loop-f.invariant in (i.0.before, i.1)
 
-pub returns-in-Refused : goal.returns-in-Refused
-returns-in-Refused c =
+pub returns-in_err-sizes : goal.returns-in_err-sizes
+returns-in_err-sizes c =
     let s = c.args.s.now in
     let l = c.loop-f in
-    let t = type_here_lem s l.at (sym c.record_at-r.ensures ∙ c.in-Type.is) in
+    let t = type_here_lem s l.at (sym c.record_at.ensures ∙ c.in_ok-f.was ∙ ap Ok c.in-Type.is) in
     let o = c.check_type.ensures ∙ ap (λ (q : TyRec). size_of (table_in s l.count) q l.at) t.said in
-    let e = ap said_checked (sym c.in-Refused.is) ∙ o in
-    c.no_types.ensures ∙ type_refused s l.at t l.count l.sizes l.invariant.0 _ _ e
+    let e = ap said_checked (sym c.in_err-sizes.was) ∙ o in
+    ap said_types (passed _ c.from_residual-in_err-sizes.ensures.1) ∙ type_refused s l.at t l.count l.sizes l.invariant.0 _ e
 
 pub bounds-sizes-count : goal.bounds-sizes-count
 bounds-sizes-count c =
     let s = c.args.s.now in
     let l = c.loop-f in
-    let t = type_here_lem s l.at (sym c.record_at-r.ensures ∙ c.in-Type.is) in
+    let t = type_here_lem s l.at (sym c.record_at.ensures ∙ c.in_ok-f.was ∙ ap Ok c.in-Type.is) in
     let o = c.check_type.ensures ∙ ap (λ (q : TyRec). size_of (table_in s l.count) q l.at) t.said in
-    let e = ap said_checked (sym c.in-Size.is) ∙ o in
+    let e = ap said_checked (sym c.in_ok-sizes.was) ∙ o in
     one_more (next-type s l.at t l.count l.sizes l.invariant.0 _ e)
 
 pub offset_bounds-keys-count : goal.offset_bounds-keys-count
@@ -65,9 +69,9 @@ pub bounds-keys-count : goal.bounds-keys-count
 bounds-keys-count c =
     let s = c.args.s.now in
     let l = c.loop-f in
-    let t = type_here_lem s l.at (sym c.record_at-r.ensures ∙ c.in-Type.is) in
+    let t = type_here_lem s l.at (sym c.record_at.ensures ∙ c.in_ok-f.was ∙ ap Ok c.in-Type.is) in
     let o = c.check_type.ensures ∙ ap (λ (q : TyRec). size_of (table_in s l.count) q l.at) t.said in
-    let e = ap said_checked (sym c.in-Size.is) ∙ o in
+    let e = ap said_checked (sym c.in_ok-sizes.was) ∙ o in
     one_more (next-type s l.at t l.count l.sizes l.invariant.0 _ e)
 
 pub overflow_add-count : goal.overflow_add-count
@@ -75,17 +79,22 @@ overflow_add-count c = let n = some-types c.loop-f.invariant.0 in record { fits 
 
 pub loop-f-smaller : goal.loop-f-smaller
 loop-f-smaller c =
-    let n = type_next false c.args.s.now c.loop-f.at (sym c.record_at-r.ensures ∙ c.in-Type.is) in
+    let n = type_next false c.args.s.now c.loop-f.at (sym c.record_at.ensures ∙ c.in_ok-f.was ∙ ap Ok c.in-Type.is) in
     omega arith
 
 pub loop-f-preserved : goal.loop-f-preserved
 loop-f-preserved c =
     let s = c.args.s.now in
     let l = c.loop-f in
-    let t = type_here_lem s l.at (sym c.record_at-r.ensures ∙ c.in-Type.is) in
+    let t = type_here_lem s l.at (sym c.record_at.ensures ∙ c.in_ok-f.was ∙ ap Ok c.in-Type.is) in
     let o = c.check_type.ensures ∙ ap (λ (q : TyRec). size_of (table_in s l.count) q l.at) t.said in
-    let e = ap said_checked (sym c.in-Size.is) ∙ o in
+    let e = ap said_checked (sym c.in_ok-sizes.was) ∙ o in
     let n = next-type s l.at t l.count l.sizes l.invariant.0 _ e in
     let k = type_is s l.at t l.count l.sizes l.invariant.0 _ e in
     let h = one_more n in
     (n, keyed_more s l.count l.keys _ (omega (arith, l.invariant.2)) (c.key_of.ensures ∙ ap key_of (t.said ∙ k)) l.invariant.1, length-set l.keys l.count _ ∙ l.invariant.2)
+
+pub returns : goal.returns
+returns c =
+    let l = c.loop-f in
+    types-done c.args.s.now l.at l.count l.sizes l.invariant.0 (sym c.record_at.ensures ∙ c.in_ok-f.was ∙ ap Ok c.in_default.is)

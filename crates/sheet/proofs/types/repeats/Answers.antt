@@ -6,12 +6,3 @@ pub returns-in-Bit : goal.returns-in-Bit
 returns-in-Bit c =
     let a = c.args in
     rw c.in-Bit.is (bit-repeats a.s.now a.count)
-
-pub returns-in-Product : goal.returns-in-Product
-returns-in-Product c = rw c.in-Product.is c.stands.ensures
-
-pub returns-in-Arrow : goal.returns-in-Arrow
-returns-in-Arrow c = rw c.in-Arrow.is c.stands-in-Arrow.ensures
-
-pub returns-in-Linear : goal.returns-in-Linear
-returns-in-Linear c = rw c.in-Linear.is c.stands-in-Linear.ensures

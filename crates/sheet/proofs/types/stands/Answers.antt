@@ -1,4 +1,4 @@
--- `sheet::stands` meets its contract. The invariant: none of the first t records is the same. The measure is the records left. Assumes nothing.
+-- `sheet::stands` meets its contract. The invariant: none of the first t records is the same. Assumes nothing.
 use mathlib.Core.Path.{refl, sym, ◌∙◌}
 use native.Mathlib.Omega.{arith}
 use Rattle.records.specs.Forms.{rec_of, rec_in}
@@ -8,32 +8,25 @@ use Rattle.sheet.proofs.types.stands.Goals as goal
 
 pub loop-t-init : goal.loop-t-init
 loop-t-init c =
-    (omega arith, first-apart c.args.s.now c.args.left c.args.right c.args.kind c.requires.1 c.requires.2)
+    first-apart c.args.s.now c.args.left c.args.right c.args.kind c.requires.1 c.requires.2
 
 pub is_record-requires : goal.is_record-requires
 is_record-requires c =
-    (c.loop-t.invariant.0, omega (arith, c.loop-t-test.true, c.requires.0), c.requires.1, c.requires.2)
+    (omega arith, omega (arith, c.loop-t-test.true, c.requires.0), c.requires.1, c.requires.2)
 
 pub returns-then-is_record : goal.returns-then-is_record
 returns-then-is_record c =
     let a = c.args in
     sym (repeated-found a.s.now a.count c.loop-t.t (rec_in a.s.now c.loop-t.t) (rec_of a.kind a.left a.right) c.loop-t-test.true refl (sym c.is_record.ensures ∙ c.if-is_record.true))
 
-pub overflow_add-t : goal.overflow_add-t
-overflow_add-t c =
-    record { fits = omega (arith, c.loop-t-test.true, c.requires.0) }
-
-pub loop-t-smaller : goal.loop-t-smaller
-loop-t-smaller c = omega arith
-
 pub loop-t-preserved : goal.loop-t-preserved
 loop-t-preserved c =
     let l = c.loop-t in
     let a = c.args in
-    (omega arith, repeated-more a.s.now l.t (rec_in a.s.now l.t) (rec_of a.kind a.left a.right) l.invariant.1 refl (sym c.is_record.ensures ∙ c.if-is_record.false))
+    repeated-more a.s.now l.t (rec_in a.s.now l.t) (rec_of a.kind a.left a.right) l.invariant refl (sym c.is_record.ensures ∙ c.if-is_record.false)
 
 pub returns : goal.returns
 returns c =
     let l = c.loop-t in
     let a = c.args in
-    sym (repeated_fewer a.s.now (rec_of a.kind a.left a.right) l.t a.count (omega (arith, c.loop-t-test.false)) l.invariant.1)
+    sym (repeated_fewer a.s.now (rec_of a.kind a.left a.right) l.t a.count (omega (arith, c.loop-t-test.false)) l.invariant)

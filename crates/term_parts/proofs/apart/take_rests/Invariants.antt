@@ -1,10 +1,6 @@
--- The invariant: i pairs were taken apart, and what comes of the names that are left is the answer. The measure is how many are left. Assumes nothing.
+-- The invariant: i pairs were taken apart, and what comes of the names that are left is the answer. Assumes nothing.
 use Rattle.term_parts.proofs.RestsLaws.{RestsGoing}
-use Prim.Native.Nat.{◌-◌}
 use Rattle.term_parts.proofs.apart.take_rests.Given as goal
 
 abbrev pub invariant-loop-i : goal.invariant-loop-i
 invariant-loop-i l = RestsGoing l.text l.initial.work l.at l.count l.top l.waiting l.initial.s l.work l.p l.i l.s
-
-abbrev pub decreases-loop-i : goal.decreases-loop-i
-decreases-loop-i l = l.count - l.i

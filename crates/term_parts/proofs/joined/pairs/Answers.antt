@@ -1,8 +1,9 @@
--- The invariant: what waits from half `left` on is joined. The measure is `left`. Assumes nothing.
+-- The invariant: what waits from half `left` on is joined. Assumes nothing.
+use Rattle.std.proofs.lemmas.Result.{err_from_is_err_and}
 use borrow.Author.Rules.{rules}
 use Rattle.term_parts.proofs.JoinLaws.{joining-none, joining-workable, joining-done, joining-type, joining-more, joining-ends, element_made, element_comma, one_pair, pair_one}
 use Rattle.notation_machine.specs.TermMachine.{pairs_of}
-use mathlib.Core.Path.{refl, ◌∙◌}
+use mathlib.Core.Path.{refl}
 use Prim.Native.Nat.{◌-◌}
 use native.Mathlib.Omega.{arith}
 use Rattle.term_parts.proofs.joined.pairs.Goals as goal
@@ -16,17 +17,14 @@ overflow_add-from c = let a = c.requires.few in let b = c.loop-left.invariant.wi
 pub half_at-h-requires : goal.half_at-h-requires
 half_at-h-requires c = ((joining-workable element_made element_comma pairs_of one_pair (λ m. refl) (λ x xs m. refl) c.args.work.now c.args.from c.args.count c.args.e c.requires c.loop-left.work c.loop-left.f c.loop-left.left c.loop-left.invariant).room, omega (arith, c.requires.few, c.loop-left.invariant.within, c.loop-left-test.true))
 
-pub pair-made-requires : goal.pair-made-requires
-pair-made-requires c = (joining-workable element_made element_comma pairs_of one_pair (λ m. refl) (λ x xs m. refl) c.args.work.now c.args.from c.args.count c.args.e c.requires c.loop-left.work c.loop-left.f c.loop-left.left c.loop-left.invariant, (joining-type element_made element_comma pairs_of one_pair (λ m. refl) (λ x xs m. refl) c.args.work.now c.args.from c.args.count c.args.e c.requires c.loop-left.work c.loop-left.f c.loop-left.left c.loop-left.invariant (c.loop-left.left - 1) (omega (arith, c.loop-left-test.true)) c.half_at-h.result c.half_at-h.ensures, c.loop-left.invariant.small))
+pub pair-requires : goal.pair-requires
+pair-requires c = (joining-workable element_made element_comma pairs_of one_pair (λ m. refl) (λ x xs m. refl) c.args.work.now c.args.from c.args.count c.args.e c.requires c.loop-left.work c.loop-left.f c.loop-left.left c.loop-left.invariant, (joining-type element_made element_comma pairs_of one_pair (λ m. refl) (λ x xs m. refl) c.args.work.now c.args.from c.args.count c.args.e c.requires c.loop-left.work c.loop-left.f c.loop-left.left c.loop-left.invariant (c.loop-left.left - 1) (omega (arith, c.loop-left-test.true)) c.half_at-h.result c.half_at-h.ensures, c.loop-left.invariant.small))
 
-pub shape_of-work-in_default : goal.shape_of-work-in_default
-shape_of-work-in_default c = c.pair-made.auto.work ∙ c.loop-left.invariant.only.same
-
-pub returns-in_default : goal.returns-in_default
-returns-in_default c = joining-ends element_made element_comma pairs_of one_pair (λ m. refl) (λ x xs m. refl) c.args.work.now c.args.from c.args.count c.args.e c.requires c.loop-left.work c.loop-left.f c.loop-left.left c.loop-left.invariant (c.loop-left.left - 1) (omega (arith, c.loop-left-test.true)) c.half_at-h.result c.half_at-h.ensures _ _ (pair_one c.loop-left.work c.half_at-h.result.place _ c.loop-left.f _ _ c.pair-made.ensures) _ _ c.in_default.is
+pub returns-in_err-f : goal.returns-in_err-f
+returns-in_err-f c = let p = err_from_is_err_and c.from_residual.result c.from_residual.ensures.1 in rw (p.1, p.2) (joining-ends element_made element_comma pairs_of one_pair (λ m. refl) (λ x xs m. refl) c.args.work.now c.args.from c.args.count c.args.e c.requires c.loop-left.work c.loop-left.f c.loop-left.left c.loop-left.invariant (c.loop-left.left - 1) (omega (arith, c.loop-left-test.true)) c.half_at-h.result c.half_at-h.ensures _ _ (pair_one c.loop-left.work c.half_at-h.result.place _ c.loop-left.f _ _ c.pair.ensures) _ c.in_err-f.was)
 
 pub loop-left-preserved : goal.loop-left-preserved
-loop-left-preserved c = joining-more element_made element_comma pairs_of one_pair (λ m. refl) (λ x xs m. refl) c.args.work.now c.args.from c.args.count c.args.e c.requires c.loop-left.work c.loop-left.f c.loop-left.left c.loop-left.invariant (c.loop-left.left - 1) (omega (arith, c.loop-left-test.true)) c.half_at-h.result c.half_at-h.ensures _ _ (pair_one c.loop-left.work c.half_at-h.result.place _ c.loop-left.f _ _ c.pair-made.ensures) _ c.in-At.is
+loop-left-preserved c = joining-more element_made element_comma pairs_of one_pair (λ m. refl) (λ x xs m. refl) c.args.work.now c.args.from c.args.count c.args.e c.requires c.loop-left.work c.loop-left.f c.loop-left.left c.loop-left.invariant (c.loop-left.left - 1) (omega (arith, c.loop-left-test.true)) c.half_at-h.result c.half_at-h.ensures _ _ (pair_one c.loop-left.work c.half_at-h.result.place _ c.loop-left.f _ _ c.pair.ensures) _ c.in_ok-f.was
 
 pub shape_of-work : goal.shape_of-work
 shape_of-work c = c.loop-left.invariant.only.same

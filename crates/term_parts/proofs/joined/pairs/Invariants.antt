@@ -1,4 +1,4 @@
--- The invariant: what waits from half `left` on is joined. The measure is `left`. Assumes nothing.
+-- The invariant: what waits from half `left` on is joined. Assumes nothing.
 use Rattle.term_parts.proofs.JoinLaws.{Joining, element_made, element_comma, one_pair}
 use Rattle.notation_machine.specs.TermMachine.{pairs_of}
 use mathlib.Core.Path.{refl}
@@ -6,6 +6,3 @@ use Rattle.term_parts.proofs.joined.pairs.Given as goal
 
 abbrev pub invariant-loop-left : goal.invariant-loop-left
 invariant-loop-left l = Joining element_made element_comma pairs_of one_pair (λ m. refl) (λ x xs m. refl) l.initial.work l.from l.count l.initial.f l.work l.f l.left
-
-abbrev pub decreases-loop-left : goal.decreases-loop-left
-decreases-loop-left l = l.left

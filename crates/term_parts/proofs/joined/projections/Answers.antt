@@ -1,8 +1,9 @@
--- The invariant: what waits from half `left` on is joined. The measure is `left`. Assumes nothing.
+-- The invariant: what waits from half `left` on is joined. Assumes nothing.
+use Rattle.std.proofs.lemmas.Result.{err_from_is_err_and}
 use borrow.Author.Rules.{rules}
 use Rattle.term_parts.proofs.JoinLaws.{joining-none, joining-workable, joining-done, joining-more, joining-ends, taken_made, taken_place, one_projection, projection_one}
 use Rattle.notation_machine.specs.TermMachine.{projections}
-use mathlib.Core.Path.{refl, ◌∙◌}
+use mathlib.Core.Path.{refl}
 use Prim.Native.Nat.{◌-◌}
 use native.Mathlib.Omega.{arith}
 use Rattle.term_parts.proofs.joined.projections.Goals as goal
@@ -16,17 +17,14 @@ overflow_add-from c = let a = c.requires.few in let b = c.loop-left.invariant.wi
 pub half_at-h-requires : goal.half_at-h-requires
 half_at-h-requires c = ((joining-workable taken_made taken_place projections one_projection (λ m. refl) (λ x xs m. refl) c.args.work.now c.args.from c.args.count c.args.e c.requires c.loop-left.work c.loop-left.f c.loop-left.left c.loop-left.invariant).room, omega (arith, c.requires.few, c.loop-left.invariant.within, c.loop-left-test.true))
 
-pub projection-made-requires : goal.projection-made-requires
-projection-made-requires c = (joining-workable taken_made taken_place projections one_projection (λ m. refl) (λ x xs m. refl) c.args.work.now c.args.from c.args.count c.args.e c.requires c.loop-left.work c.loop-left.f c.loop-left.left c.loop-left.invariant, c.loop-left.invariant.small)
+pub projection-requires : goal.projection-requires
+projection-requires c = (joining-workable taken_made taken_place projections one_projection (λ m. refl) (λ x xs m. refl) c.args.work.now c.args.from c.args.count c.args.e c.requires c.loop-left.work c.loop-left.f c.loop-left.left c.loop-left.invariant, c.loop-left.invariant.small)
 
-pub shape_of-work-in_default : goal.shape_of-work-in_default
-shape_of-work-in_default c = c.projection-made.auto.work ∙ c.loop-left.invariant.only.same
-
-pub returns-in_default : goal.returns-in_default
-returns-in_default c = joining-ends taken_made taken_place projections one_projection (λ m. refl) (λ x xs m. refl) c.args.work.now c.args.from c.args.count c.args.e c.requires c.loop-left.work c.loop-left.f c.loop-left.left c.loop-left.invariant (c.loop-left.left - 1) (omega (arith, c.loop-left-test.true)) c.half_at-h.result c.half_at-h.ensures _ _ (projection_one c.loop-left.work c.half_at-h.result.place _ c.loop-left.f _ _ c.projection-made.ensures) _ _ c.in_default.is
+pub returns-in_err-f : goal.returns-in_err-f
+returns-in_err-f c = let p = err_from_is_err_and c.from_residual.result c.from_residual.ensures.1 in rw (p.1, p.2) (joining-ends taken_made taken_place projections one_projection (λ m. refl) (λ x xs m. refl) c.args.work.now c.args.from c.args.count c.args.e c.requires c.loop-left.work c.loop-left.f c.loop-left.left c.loop-left.invariant (c.loop-left.left - 1) (omega (arith, c.loop-left-test.true)) c.half_at-h.result c.half_at-h.ensures _ _ (projection_one c.loop-left.work c.half_at-h.result.place _ c.loop-left.f _ _ c.projection.ensures) _ c.in_err-f.was)
 
 pub loop-left-preserved : goal.loop-left-preserved
-loop-left-preserved c = joining-more taken_made taken_place projections one_projection (λ m. refl) (λ x xs m. refl) c.args.work.now c.args.from c.args.count c.args.e c.requires c.loop-left.work c.loop-left.f c.loop-left.left c.loop-left.invariant (c.loop-left.left - 1) (omega (arith, c.loop-left-test.true)) c.half_at-h.result c.half_at-h.ensures _ _ (projection_one c.loop-left.work c.half_at-h.result.place _ c.loop-left.f _ _ c.projection-made.ensures) _ c.in-At.is
+loop-left-preserved c = joining-more taken_made taken_place projections one_projection (λ m. refl) (λ x xs m. refl) c.args.work.now c.args.from c.args.count c.args.e c.requires c.loop-left.work c.loop-left.f c.loop-left.left c.loop-left.invariant (c.loop-left.left - 1) (omega (arith, c.loop-left-test.true)) c.half_at-h.result c.half_at-h.ensures _ _ (projection_one c.loop-left.work c.half_at-h.result.place _ c.loop-left.f _ _ c.projection.ensures) _ c.in_ok-f.was
 
 pub shape_of-work : goal.shape_of-work
 shape_of-work c = c.loop-left.invariant.only.same

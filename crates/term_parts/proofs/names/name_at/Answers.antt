@@ -7,4 +7,4 @@ pub returns-then-w-eq-NAME : goal.returns-then-w-eq-NAME
 returns-then-w-eq-NAME c = name_there c.args.text.now c.args.at (said_word c.word_at-w.result) c.word_at-w.ensures c.if-w-eq-NAME.true
 
 pub returns : goal.returns
-returns c = name_missing c.args.text.now c.args.at (said_word c.word_at-w.result) c.word_at-w.ensures c.if-w-eq-NAME.false c.args.at
+returns c = rw c.at.ensures (name_missing c.args.text.now c.args.at (said_word c.word_at-w.result) c.word_at-w.ensures c.if-w-eq-NAME.false)

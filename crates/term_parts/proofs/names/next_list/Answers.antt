@@ -1,7 +1,7 @@
 -- The invariant: no list begins up to the word that stands at the offset. The measure is how many words are left. Assumes nothing.
-use mathlib.Core.Path.{refl, sym, ◌∙◌}
+use mathlib.Core.Path.{sym, ◌∙◌}
 use Rattle.words.specs.Next.{said_word}
-use Rattle.term_parts.proofs.ListLaws.{scanning_none, scanning_on, scanning_more, scanning-done}
+use Rattle.term_parts.proofs.ListLaws.{scanning_none, scanning_on, scanning_more, scanning-done, scanning-none}
 use Rattle.term_parts.proofs.names.next_list.Goals as goal
 
 pub word_at-w-requires : goal.word_at-w-requires
@@ -22,5 +22,8 @@ loop-p-smaller c = (scanning_on c.args.text.now c.args.at c.loop-p.p (said_word 
 pub loop-p-preserved : goal.loop-p-preserved
 loop-p-preserved c = scanning_more c.args.text.now c.args.at c.loop-p.p (said_word c.loop-p.w) c.loop-p.invariant (sym c.listed.ensures ∙ c.loop-p-test.true) (said_word c.word_at-w-in-loop-p.result) c.word_at-w-in-loop-p.ensures
 
+pub returns-then-w-ne-ROUND : goal.returns-then-w-ne-ROUND
+returns-then-w-ne-ROUND c = scanning-none c.args.text.now c.args.at c.loop-p.p (said_word c.loop-p.w) c.loop-p.invariant (sym c.listed.ensures ∙ c.loop-p-test.false) c.if-w-ne-ROUND.true
+
 pub returns : goal.returns
-returns c = scanning-done c.args.text.now c.args.at c.loop-p.p (said_word c.loop-p.w) c.loop-p.invariant (sym c.listed.ensures ∙ c.loop-p-test.false) _ refl
+returns c = scanning-done c.args.text.now c.args.at c.loop-p.p (said_word c.loop-p.w) c.loop-p.invariant (sym c.listed.ensures ∙ c.loop-p-test.false) c.if-w-ne-ROUND.false

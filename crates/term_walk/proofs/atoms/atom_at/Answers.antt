@@ -1,4 +1,8 @@
 -- By the code of the first word. Assumes nothing.
+use Rattle.term_walk.proofs.StepLaws.{made-behind, made_refused_lem}
+use Rattle.term_walk.specs.Steps.{CanApplyMade}
+use mathlib.Core.Path.{subst}
+use Rattle.std.proofs.lemmas.Result.{err_from_is_err_and}
 use Rattle.term_walk.proofs.AtomLaws.{enter-room, enter_workable, can_made, atom_round, atom_part, atom_name, atom_none}
 use Rattle.term_walk.proofs.StepLaws.{can_ask}
 use mathlib.Core.Path.{refl}
@@ -15,20 +19,14 @@ returns-then-kind-eq-ROUND c =
     let can = can_ask a.text.now a.work.now a.h c.requires.0.can _ refl in
     atom_round a.text.now a.work.now a.h (left_here a.h a.place a.flag) _ c.requires.1 can c.if-kind-eq-ROUND.true _ c.part_level-l.ensures _ _ c.ask.ensures
 
-pub part-made-requires : goal.part-made-requires
-part-made-requires c = enter_workable c.args.text.now c.args.work.now c.args.h c.requires.0.can
+pub part-requires : goal.part-requires
+part-requires c = enter_workable c.args.text.now c.args.work.now c.args.h c.requires.0.can
 
-pub behind_made-requires : goal.behind_made-requires
-behind_made-requires c =
-    let a = c.args in
-    let m = c.part-made in
-    can_made a.text.now a.work.now a.h (left_here a.h a.place a.flag) c.requires.0 _ m.ensures.only m.result m.ensures.small
+pub behind_atom-requires : goal.behind_atom-requires
+behind_atom-requires c = subst (CanApplyMade c.part.new.work (left_here c.args.h c.args.place c.args.flag)) c.in_ok-made.was (can_made c.args.text.now c.args.work.now c.args.h (left_here c.args.h c.args.place c.args.flag) c.requires.0 _ c.part.ensures.only c.part.result c.part.ensures.small)
 
 pub returns-then-kind-eq-PART : goal.returns-then-kind-eq-PART
-returns-then-kind-eq-PART c =
-    let a = c.args in
-    let room = enter-room a.text.now a.work.now a.h c.requires.0.can in
-    atom_part a.text.now a.work.now a.h (left_here a.h a.place a.flag) _ c.requires.1 room.0 room.1 c.if-kind-eq-PART.true _ _ c.part-made.ensures _ _ c.behind_made.ensures
+returns-then-kind-eq-PART c = atom_part c.args.text.now c.args.work.now c.args.h (left_here c.args.h c.args.place c.args.flag) _ c.requires.1 (enter-room c.args.text.now c.args.work.now c.args.h c.requires.0.can).0 (enter-room c.args.text.now c.args.work.now c.args.h c.requires.0.can).1 c.if-kind-eq-PART.true _ _ c.part.ensures _ _ (made-behind c.part.new.work c.args.h (left_here c.args.h c.args.place c.args.flag) c.part.result c.args.end _ c.in_ok-made.was _ _ c.behind_atom.ensures)
 
 pub named_at-requires : goal.named_at-requires
 named_at-requires c =
@@ -41,6 +39,7 @@ returns-then-kind-eq-NAME c =
     atom_name a.text.now a.work.now a.h (left_here a.h a.place a.flag) _ c.requires.1 c.if-kind-eq-NAME.true _ _ c.named_at.ensures
 
 pub returns : goal.returns
-returns c =
-    let a = c.args in
-    atom_none a.text.now a.work.now a.h (left_here a.h a.place a.flag) _ c.requires.1 c.if-kind-eq-ROUND.false c.if-kind-eq-PART.false c.if-kind-eq-NAME.false
+returns c = rw c.at.ensures (atom_none c.args.text.now c.args.work.now c.args.h (left_here c.args.h c.args.place c.args.flag) _ c.requires.1 c.if-kind-eq-ROUND.false c.if-kind-eq-PART.false c.if-kind-eq-NAME.false)
+
+pub returns-in_err-made : goal.returns-in_err-made
+returns-in_err-made c = let p = err_from_is_err_and c.from_residual.result c.from_residual.ensures.1 in rw (p.1, p.2) (atom_part c.args.text.now c.args.work.now c.args.h (left_here c.args.h c.args.place c.args.flag) _ c.requires.1 (enter-room c.args.text.now c.args.work.now c.args.h c.requires.0.can).0 (enter-room c.args.text.now c.args.work.now c.args.h c.requires.0.can).1 c.if-kind-eq-PART.true _ _ c.part.ensures _ _ (made_refused_lem c.part.new.work c.args.h (left_here c.args.h c.args.place c.args.flag) c.part.result c.args.end _ c.in_err-made.was))

@@ -8,7 +8,7 @@ use native.Mathlib.Omega.{arith}
 use Rattle.term_walk.proofs.binders.bind_fix.Goals as goal
 
 pub returns-then-not-has_room : goal.returns-then-not-has_room
-returns-then-not-has_room c = room_refused c.args.text.now c.args.work.now c.args.h c.args.place 1 _ (sym c.has_room.ensures ∙ not_yes _ c.if-not-has_room.true-raw)
+returns-then-not-has_room c = rw c.at.ensures (room_refused c.args.text.now c.args.work.now c.args.h c.args.place 1 _ (sym c.has_room.ensures ∙ not_yes _ c.if-not-has_room.true-raw))
 
 pub bind_name-requires : goal.bind_name-requires
 bind_name-requires c = ((leb_less c.args.h.top 1024 (sym c.has_room.ensures ∙ not_no _ c.if-not-has_room.false-raw)), (c.requires.0.can.here.scope.walkable.room, omega (arith, c.requires.1.inside, c.requires.0.can.here.scope.walkable.short)))

@@ -8,7 +8,7 @@ use native.Mathlib.Omega.{arith}
 use Rattle.term_walk.proofs.binders.bind_function.Goals as goal
 
 pub returns-then-not-has_room : goal.returns-then-not-has_room
-returns-then-not-has_room c = room_refused c.args.text.now c.args.work.now c.args.h c.args.place c.args.count _ (sym c.has_room.ensures ∙ not_yes _ c.if-not-has_room.true-raw)
+returns-then-not-has_room c = rw c.at.ensures (room_refused c.args.text.now c.args.work.now c.args.h c.args.place c.args.count _ (sym c.has_room.ensures ∙ not_yes _ c.if-not-has_room.true-raw))
 
 pub bind_names-requires : goal.bind_names-requires
 bind_names-requires c = record { names = c.requires.1.0; can = record { short = c.requires.0.can.here.scope.walkable.short; room = c.requires.0.can.here.scope.walkable.room; few = (room-sum c.args.h.top c.args.count (sym c.has_room.ensures ∙ not_no _ c.if-not-has_room.false-raw)) } }

@@ -1,19 +1,29 @@
 -- The items are those of `list_from headAt`, and `)` and `=` stand behind them. Assumes nothing.
 use Rattle.term_walk.proofs.BinderLaws.{names_refused, names-open, names-named}
 use native.Mathlib.Omega.{arith}
+use Rattle.std.proofs.lemmas.Result.{err_from_is_err_and}
+use mathlib.Core.Path.{subst}
+use Rattle.term_parts.specs.Names.{ListedSay}
+use Rattle.grammar.specs.Ends.{Ends}
+use lib.ListN.{length}
+use Rattle.words.specs.Lexed.{from}
+use Rattle.term_walk.specs.Steps.{closed_by}
 use Rattle.term_walk.proofs.binders.names_from.Goals as goal
 
-pub returns-then-x-ne0 : goal.returns-then-x-ne0
-returns-then-x-ne0 c = names_refused c.args.text.now c.args.work.now c.args.h c.args.place c.args.start c.args.at c.requires.1.1.1.0 c.requires.1.1.1.1 c.count_listed-x.result c.count_listed-x.ensures c.if-x-ne0.true
+pub returns-in_err-x : goal.returns-in_err-x
+returns-in_err-x c = let p = err_from_is_err_and c.from_residual.result c.from_residual.ensures.1 in rw (p.1, p.2) (names_refused c.args.text.now c.args.work.now c.args.h c.args.place c.args.start c.args.at c.requires.1.1.1.0 c.requires.1.1.1.1 _ (subst (ListedSay c.args.text.now c.args.at) c.in_err-x.was c.count_listed.ensures))
 
-pub closed-c-requires : goal.closed-c-requires
-closed-c-requires c = (c.count_listed-x.ensures.lexed c.if-x-ne0.false, omega arith)
+pub closed-requires : goal.closed-requires
+closed-requires c = ((subst (ListedSay c.args.text.now c.args.at) c.in_ok-x.was c.count_listed.ensures).lexed, omega arith)
 
-pub returns-then-c-ne0 : goal.returns-then-c-ne0
-returns-then-c-ne0 c = names-open c.args.text.now c.args.work.now c.args.h c.args.place c.args.start c.args.at c.requires.1.1.1.0 c.requires.1.1.1.1 c.count_listed-x.result c.count_listed-x.ensures c.if-x-ne0.false c.closed-c.result c.closed-c.ensures c.if-c-ne0.true
+pub returns-in_err-behind : goal.returns-in_err-behind
+returns-in_err-behind c = let p = err_from_is_err_and c.from_residual-in_err-behind.result c.from_residual-in_err-behind.ensures.1 in rw (p.1, p.2) (names-open c.args.text.now c.args.work.now c.args.h c.args.place c.args.start c.args.at c.requires.1.1.1.0 c.requires.1.1.1.1 c.in_ok-x.x (subst (ListedSay c.args.text.now c.args.at) c.in_ok-x.was c.count_listed.ensures) _ (subst (Ends c.args.text.now (length (from c.args.text.now c.in_ok-x.x.end)) (closed_by 13 (from c.args.text.now c.in_ok-x.x.end))) c.in_err-behind.was c.closed.ensures))
 
 pub ask_values-requires : goal.ask_values-requires
-ask_values-requires c = (c.requires.0, ((λ _. (c.closed-c.ensures.reaches c.if-c-ne0.false).lexed), (c.requires.1.0, (c.count_listed-x.ensures.stand c.if-x-ne0.false, omega (arith, c.count_listed-x.ensures.few, c.requires.0.here.scope.walkable.short)))))
+ask_values-requires c =
+    let N = (subst (ListedSay c.args.text.now c.args.at) c.in_ok-x.was c.count_listed.ensures) in
+    let C = (subst (Ends c.args.text.now (length (from c.args.text.now c.in_ok-x.x.end)) (closed_by 13 (from c.args.text.now c.in_ok-x.x.end))) c.in_ok-behind.was c.closed.ensures) in
+    (c.requires.0, ((λ _. C.lexed), (c.requires.1.0, (N.stand, omega (arith, N.few, c.requires.0.here.scope.walkable.short)))))
 
 pub returns : goal.returns
-returns c = names-named c.args.text.now c.args.work.now c.args.h c.args.place c.args.start c.args.at c.requires.1.1.1.0 c.requires.1.1.1.1 c.count_listed-x.result c.count_listed-x.ensures c.if-x-ne0.false c.closed-c.result c.closed-c.ensures c.if-c-ne0.false _ _ c.ask_values.ensures
+returns c = names-named c.args.text.now c.args.work.now c.args.h c.args.place c.args.start c.args.at c.requires.1.1.1.0 c.requires.1.1.1.1 c.in_ok-x.x (subst (ListedSay c.args.text.now c.args.at) c.in_ok-x.was c.count_listed.ensures) _ (subst (Ends c.args.text.now (length (from c.args.text.now c.in_ok-x.x.end)) (closed_by 13 (from c.args.text.now c.in_ok-x.x.end))) c.in_ok-behind.was c.closed.ensures) _ _ c.ask_values.ensures

@@ -8,7 +8,7 @@ pub look-w-requires : goal.look-w-requires
 look-w-requires c = step-looks c.args.text.now c.args.work.now c.args.h c.requires.0
 
 pub returns-then-h-eq0 : goal.returns-then-h-eq0
-returns-then-h-eq0 c = enter-none c.args.text.now c.args.work.now c.args.h c.requires.1 c.if-h-eq0.true c.look-w.result c.look-w.ensures
+returns-then-h-eq0 c = rw c.at.ensures (enter-none c.args.text.now c.args.work.now c.args.h c.requires.1 c.if-h-eq0.true c.look-w.result c.look-w.ensures)
 
 pub function_from-requires : goal.function_from-requires
 function_from-requires c = (can_enter c.args.text.now c.args.work.now c.args.h c.requires.1 c.requires.0 c.if-h-eq0.false, names-behind c.args.text.now c.args.work.now c.args.h c.requires.1 c.look-w.result c.look-w.ensures (λ z. absurd (omega (arith, z, c.if-w-eq-FUN.true))))

@@ -1,26 +1,19 @@
 -- The tests, and then one stage after the other. Assumes nothing.
 use native.Mathlib.Omega.{arith}
-use mathlib.Core.Path.{refl, ◌∙◌}
-use Prim.Native.Nat.{◌-◌, ◌*◌}
-use Rattle.trace_steps.specs.Pins.{in_pin_count}
+use mathlib.Core.Path.{sym, ◌∙◌}
+use Prim.Native.Nat.{◌*◌}
 use Rattle.trace_steps.specs.Words.{entire}
-use Rattle.trace.proofs.FreeLaws.{said_no, said_yes, mul_few, pins₁, ins_few₁}
+use Rattle.trace.proofs.FreeLaws.{mul_few, ins_few₁}
 use Rattle.trace.proofs.LanesLaws.{lent-counts, freed_20, freed_17}
 use Rattle.trace.proofs.FlatLaws.{layable, flat-wake-ready, flat-run-ready, flat-keep-ready, flat-lanes}
 use Rattle.trace.proofs.wide.run.Goals as goal
-
-pub input_pins-ins-requires : goal.input_pins-ins-requires
-input_pins-ins-requires c =
-    let a = c.args in
-    let g = c.registers-regs in
-    pins₁ a.work.now a.end a.settled a.pins a.ticks a.inputs.now a.state.now a.out.now c.requires.0 g.new.work g.result g.ensures (in_pin_count g.new.work a.pins) refl
 
 pub overflow_sub-outs : goal.overflow_sub-outs
 overflow_sub-outs c =
     let a = c.args in
     let g = c.registers-regs in
     let i = c.input_pins-ins in
-    ins_few₁ a.work.now a.end a.settled a.pins a.ticks a.inputs.now a.state.now a.out.now c.requires.0 g.new.work g.result g.ensures i.result i.ensures
+    ins_few₁ a.work.now a.order.end a.order.settled a.order.pins a.ticks a.inputs.now a.state.now a.out.now c.requires.0 g.new.work g.result g.ensures i.result i.ensures
 
 pub overflow_mul-reads : goal.overflow_mul-reads
 overflow_mul-reads c =
@@ -28,17 +21,8 @@ overflow_mul-reads c =
     let g = c.registers-regs in
     let i = c.input_pins-ins in
     let f = c.requires.0.pins_low.few in
-    let h = ins_few₁ a.work.now a.end a.settled a.pins a.ticks a.inputs.now a.state.now a.out.now c.requires.0 g.new.work g.result g.ensures i.result i.ensures in
+    let h = ins_few₁ a.work.now a.order.end a.order.settled a.order.pins a.ticks a.inputs.now a.state.now a.out.now c.requires.0 g.new.work g.result g.ensures i.result i.ensures in
     omega (arith, mul_few a.ticks i.result c.requires.0.short (omega arith))
-
-pub overflow_mul-writes : goal.overflow_mul-writes
-overflow_mul-writes c =
-    let a = c.args in
-    let g = c.registers-regs in
-    let i = c.input_pins-ins in
-    let f = c.requires.0.pins_low.few in
-    let h = ins_few₁ a.work.now a.end a.settled a.pins a.ticks a.inputs.now a.state.now a.out.now c.requires.0 g.new.work g.result g.ensures i.result i.ensures in
-    omega (arith, mul_few a.ticks (a.pins - i.result) c.requires.0.short (omega arith))
 
 pub returns-then-not-lent : goal.returns-then-not-lent
 returns-then-not-lent c =
@@ -46,7 +30,7 @@ returns-then-not-lent c =
     let g = c.registers-regs in
     let i = c.input_pins-ins in
     let t = c.lent in
-    rw c.refused.ensures (freed_20 a.work.now a.end a.settled a.pins a.ticks a.inputs.now a.state.now a.out.now c.requires.0 g.new.work g.result g.ensures i.result i.ensures (said_no t.result t.ensures c.if-not-lent.true-raw))
+    rw c.at.ensures (freed_20 a.work.now a.order.end a.order.settled a.order.pins a.ticks a.inputs.now a.state.now a.out.now c.requires.0 g.new.work g.result g.ensures i.result i.ensures (sym t.ensures ∙ c.if-not-lent.true))
 
 pub returns-then-out-writes : goal.returns-then-out-writes
 returns-then-out-writes c =
@@ -54,8 +38,8 @@ returns-then-out-writes c =
     let g = c.registers-regs in
     let i = c.input_pins-ins in
     let t = c.lent in
-    let e = said_yes t.result t.ensures c.if-not-lent.false-raw in
-    rw c.refused-then-out-writes.ensures (freed_17 a.work.now a.end a.settled a.pins a.ticks a.inputs.now a.state.now a.out.now c.requires.0 g.new.work g.result g.ensures i.result i.ensures e c.if-out-writes.true)
+    let e = sym t.ensures ∙ c.if-not-lent.false in
+    rw c.at-then-out-writes.ensures (freed_17 a.work.now a.order.end a.order.settled a.order.pins a.ticks a.inputs.now a.state.now a.out.now c.requires.0 g.new.work g.result g.ensures i.result i.ensures e c.if-out-writes.true)
 
 pub lay-requires : goal.lay-requires
 lay-requires c =
@@ -63,8 +47,8 @@ lay-requires c =
     let g = c.registers-regs in
     let i = c.input_pins-ins in
     let t = c.lent in
-    let e = said_yes t.result t.ensures c.if-not-lent.false-raw in
-    layable a.work.now a.end a.settled a.pins a.ticks a.inputs.now a.state.now a.out.now c.requires.0 g.new.work g.result g.ensures i.result i.ensures (c.requires.1.gates, c.requires.1.registers g.new.work g.result g.ensures)
+    let e = sym t.ensures ∙ c.if-not-lent.false in
+    layable a.work.now a.order.end a.order.settled a.order.pins a.ticks a.inputs.now a.state.now a.out.now c.requires.0 g.new.work g.result g.ensures i.result i.ensures (c.requires.1.gates, c.requires.1.registers g.new.work g.result g.ensures)
 
 pub wake-requires : goal.wake-requires
 wake-requires c =
@@ -72,9 +56,9 @@ wake-requires c =
     let g = c.registers-regs in
     let i = c.input_pins-ins in
     let t = c.lent in
-    let e = said_yes t.result t.ensures c.if-not-lent.false-raw in
+    let e = sym t.ensures ∙ c.if-not-lent.false in
     let d = c.lay in
-    flat-wake-ready a.work.now a.end a.settled a.pins a.ticks a.inputs.now a.state.now a.out.now c.requires.0 g.new.work g.result g.ensures i.result i.ensures (c.requires.1.gates, c.requires.1.registers g.new.work g.result g.ensures) d.new.work d.ensures (lent-counts a.inputs.now a.state.now (a.ticks * i.result) g.result e).1
+    flat-wake-ready a.work.now a.order.end a.order.settled a.order.pins a.ticks a.inputs.now a.state.now a.out.now c.requires.0 g.new.work g.result g.ensures i.result i.ensures (c.requires.1.gates, c.requires.1.registers g.new.work g.result g.ensures) d.new.work d.ensures (lent-counts a.inputs.now a.state.now (a.ticks * i.result) g.result e).1
 
 pub run-requires : goal.run-requires
 run-requires c =
@@ -82,10 +66,10 @@ run-requires c =
     let g = c.registers-regs in
     let i = c.input_pins-ins in
     let t = c.lent in
-    let e = said_yes t.result t.ensures c.if-not-lent.false-raw in
+    let e = sym t.ensures ∙ c.if-not-lent.false in
     let d = c.lay in
     let k = c.wake in
-    flat-run-ready a.work.now a.end a.settled a.pins a.ticks a.inputs.now a.state.now a.out.now c.requires.0 g.new.work g.result g.ensures i.result i.ensures (c.requires.1.gates, c.requires.1.registers g.new.work g.result g.ensures) d.new.work d.ensures k.new.work k.ensures (lent-counts a.inputs.now a.state.now (a.ticks * i.result) g.result e).0 c.if-out-writes.false
+    flat-run-ready a.work.now a.order.end a.order.settled a.order.pins a.ticks a.inputs.now a.state.now a.out.now c.requires.0 g.new.work g.result g.ensures i.result i.ensures (c.requires.1.gates, c.requires.1.registers g.new.work g.result g.ensures) d.new.work d.ensures k.new.work k.ensures (lent-counts a.inputs.now a.state.now (a.ticks * i.result) g.result e).0 c.if-out-writes.false
 
 pub keep-requires : goal.keep-requires
 keep-requires c =
@@ -93,11 +77,11 @@ keep-requires c =
     let g = c.registers-regs in
     let i = c.input_pins-ins in
     let t = c.lent in
-    let e = said_yes t.result t.ensures c.if-not-lent.false-raw in
+    let e = sym t.ensures ∙ c.if-not-lent.false in
     let d = c.lay in
     let k = c.wake in
     let r = c.run in
-    flat-keep-ready a.work.now a.end a.settled a.pins a.ticks a.inputs.now a.state.now a.out.now c.requires.0 g.new.work g.result g.ensures i.result i.ensures (c.requires.1.gates, c.requires.1.registers g.new.work g.result g.ensures) d.new.work d.ensures k.new.work k.ensures entire r.new.work r.new.out r.ensures (lent-counts a.inputs.now a.state.now (a.ticks * i.result) g.result e).1
+    flat-keep-ready a.work.now a.order.end a.order.settled a.order.pins a.ticks a.inputs.now a.state.now a.out.now c.requires.0 g.new.work g.result g.ensures i.result i.ensures (c.requires.1.gates, c.requires.1.registers g.new.work g.result g.ensures) d.new.work d.ensures k.new.work k.ensures entire r.new.work r.new.out r.ensures (lent-counts a.inputs.now a.state.now (a.ticks * i.result) g.result e).1
 
 pub returns : goal.returns
 returns c =
@@ -105,7 +89,7 @@ returns c =
     let g = c.registers-regs in
     let i = c.input_pins-ins in
     let t = c.lent in
-    let e = said_yes t.result t.ensures c.if-not-lent.false-raw in
+    let e = sym t.ensures ∙ c.if-not-lent.false in
     let d = c.lay in
     let k = c.wake in
     let r = c.run in
@@ -116,7 +100,4 @@ returns c =
     let out₁ = c.slice_known-8-1 in
     let state₀ = c.slice_known-2-1 in
     let state₁ = c.slice_known-9-1 in
-    flat-lanes a.work.now a.end a.settled a.pins a.ticks a.inputs.now a.state.now a.out.now c.requires.0 g.new.work g.result g.ensures i.result i.ensures (c.requires.1.gates, c.requires.1.registers g.new.work g.result g.ensures) d.new.work d.ensures k.new.work k.ensures e c.if-out-writes.false r.new.work r.new.out r.ensures (λ j. (bits.given j).fits) (λ j. (shown.given j).fits) p.new.state p.ensures (λ j. (out₀.given j).fits) (λ j. (out₁.given j).fits) (λ j. (state₀.given j).fits) (λ j. (state₁.given j).fits)
-
-pub shape_of-work : goal.shape_of-work
-shape_of-work c = c.run.ensures.cells.size ∙ c.wake.ensures.between.size ∙ c.lay.ensures.size ∙ c.registers-regs.ensures.size
+    flat-lanes a.work.now a.order.end a.order.settled a.order.pins a.ticks a.inputs.now a.state.now a.out.now c.requires.0 g.new.work g.result g.ensures i.result i.ensures (c.requires.1.gates, c.requires.1.registers g.new.work g.result g.ensures) d.new.work d.ensures k.new.work k.ensures e c.if-out-writes.false r.new.work r.new.out r.ensures (λ j. (bits.given j).fits) (λ j. (shown.given j).fits) p.new.state p.ensures (λ j. (out₀.given j).fits) (λ j. (out₁.given j).fits) (λ j. (state₀.given j).fits) (λ j. (state₁.given j).fits)

@@ -3,6 +3,7 @@ use mathlib.Core.Path.{subst}
 use Rattle.memory.specs.Map.{net_in}
 use Rattle.trace.specs.Ordering.{PutInOrder}
 use Rattle.trace.proofs.PartBounds.{roomy}
+use Rattle.answers.proofs.Passed.{passed}
 use Rattle.trace.proofs.StageLaws.{lanes_ring-ran, lanes_free-ran}
 use Rattle.trace.proofs.wide.run_net.Goals as goal
 
@@ -10,20 +11,20 @@ pub run-requires : goal.run-requires
 run-requires c =
     let a = c.args in
     let p = c.put_in_order in
-    let o = subst (PutInOrder a.work.now a.counts.elements a.counts.wires a.counts.pins p.new.work) c.in-Free.is p.ensures in
-    (o.says.2 a.ticks c.requires.2, roomy (net_in a.work.now a.counts.elements a.counts.wires a.counts.pins) p.new.work _ _ a.counts.pins c.requires.3 o.says.1)
+    let o = subst (PutInOrder a.work.now a.counts.elements a.counts.wires a.counts.pins p.new.work) c.in_ok-order.was p.ensures in
+    (o.says.2 a.ticks c.requires.2, roomy (net_in a.work.now a.counts.elements a.counts.wires a.counts.pins) p.new.work _ _ c.in_ok-order.order.pins c.requires.3 o.says.1)
 
-pub returns-in-OnRing : goal.returns-in-OnRing
-returns-in-OnRing c =
+pub returns-in_err-order : goal.returns-in_err-order
+returns-in_err-order c =
     let a = c.args in
     let p = c.put_in_order in
-    let o = subst (PutInOrder a.work.now a.counts.elements a.counts.wires a.counts.pins p.new.work) c.in-OnRing.is p.ensures in
-    rw c.refused.ensures (lanes_ring-ran a.work.now a.counts.elements a.counts.wires a.counts.pins c.requires.0.size a.ticks a.inputs.now a.state.now a.out.now p.new.work _ o)
+    let o = subst (PutInOrder a.work.now a.counts.elements a.counts.wires a.counts.pins p.new.work) c.in_err-order.was p.ensures in
+    rw (passed _ c.from_residual.ensures.1) (lanes_ring-ran a.work.now a.counts.elements a.counts.wires a.counts.pins c.requires.0.size a.ticks a.inputs.now a.state.now a.out.now p.new.work _ o)
 
-pub returns-in-Free : goal.returns-in-Free
-returns-in-Free c =
+pub returns : goal.returns
+returns c =
     let a = c.args in
     let p = c.put_in_order in
-    let o = subst (PutInOrder a.work.now a.counts.elements a.counts.wires a.counts.pins p.new.work) c.in-Free.is p.ensures in
+    let o = subst (PutInOrder a.work.now a.counts.elements a.counts.wires a.counts.pins p.new.work) c.in_ok-order.was p.ensures in
     let r = c.run in
-    lanes_free-ran a.work.now a.counts.elements a.counts.wires a.counts.pins c.requires.0.size a.ticks a.inputs.now a.state.now a.out.now p.new.work _ _ o r.new.work r.new.state r.new.out r.result r.ensures
+    lanes_free-ran a.work.now a.counts.elements a.counts.wires a.counts.pins c.requires.0.size a.ticks a.inputs.now a.state.now a.out.now p.new.work _ o r.new.work r.new.state r.new.out r.result r.ensures

@@ -8,35 +8,17 @@ use Rattle.trace_flat.proofs.Laws.{between_none, between-set, stretch-step}
 use Rattle.trace_flat.proofs.layout.darken.Goals as goal
 
 pub loop-j-init : goal.loop-j-init
-loop-j-init c = (omega arith, (between_none _ _ _, refl))
-
-pub overflow_add-work : goal.overflow_add-work
-overflow_add-work c = let few = c.requires.1 in omega arith
-
-pub offset_bounds-work-j : goal.offset_bounds-work-j
-offset_bounds-work-j c = let few = c.requires.1 in omega arith
-
-pub bounds-work-j : goal.bounds-work-j
-bounds-work-j c = let z = c.loop-j.invariant.1.0.size in let q = c.requires.0 in let few = c.requires.1 in omega arith
-
-pub overflow_add-j : goal.overflow_add-j
-overflow_add-j c = let few = c.requires.1 in omega arith
-
-pub loop-j-smaller : goal.loop-j-smaller
-loop-j-smaller c = omega arith
+loop-j-init c = (between_none _ _ _, refl)
 
 pub loop-j-preserved : goal.loop-j-preserved
 loop-j-preserved c =
     let l = c.loop-j in
-    let z = l.invariant.1.0.size in
+    let z = l.invariant.0.size in
     let few = c.requires.1 in
-    stretch-step gates_at ins_at dark_one c.args.work.now l.work _ l.j c.args.settled c.loop-j-test.true l.invariant.1.0 l.invariant.1.1 (refl) (between-set gates_at ins_at l.work (gates_at + l.j) _ (omega arith) (omega arith))
-
-pub shape_of-work : goal.shape_of-work
-shape_of-work c = c.loop-j.invariant.1.0.size
+    stretch-step gates_at ins_at dark_one c.args.work.now l.work _ l.j l.invariant.0 l.invariant.1 (refl) (between-set gates_at ins_at l.work (gates_at + l.j) _ (omega arith) (omega arith))
 
 pub returns : goal.returns
 returns c =
     let l = c.loop-j in
     let a = c.args in
-    record { between = l.invariant.1.0; whole = turns-all dark_one l.j a.settled a.work.now l.work (omega arith) l.invariant.1.1 }
+    record { between = l.invariant.0; whole = turns-all dark_one l.j a.settled a.work.now l.work (omega arith) l.invariant.1 }

@@ -10,12 +10,6 @@ use Rattle.trace_flat.specs.Flat.{first_at, second_at_lem, third_at}
 use Rattle.trace_flat.proofs.Laws.{lay-is}
 use Rattle.trace_flat.proofs.layout.lay_gate.Goals as goal
 
-pub overflow_add-j : goal.overflow_add-j
-overflow_add-j c = let h = c.requires.1 in omega arith
-
-pub at-o-requires : goal.at-o-requires
-at-o-requires c = let z = c.requires.0.size in let h = c.requires.1 in omega arith
-
 pub offset_bounds-work-o : goal.offset_bounds-work-o
 offset_bounds-work-o c =
     let w = c.args.work.now in
@@ -57,33 +51,12 @@ fed-b-requires c =
     let h = l.low in
     (l.size, (omega arith, l.last))
 
-pub overflow_add-work : goal.overflow_add-work
-overflow_add-work c = let h = c.requires.1 in omega arith
-
-pub offset_bounds-work-j : goal.offset_bounds-work-j
-offset_bounds-work-j c = let h = c.requires.1 in omega arith
-
-pub bounds-work-j : goal.bounds-work-j
-bounds-work-j c = let z = c.requires.0.size in let h = c.requires.1 in omega arith
-
-pub overflow_add-work-2 : goal.overflow_add-work-2
-overflow_add-work-2 c = let h = c.requires.1 in omega arith
-
-pub offset_bounds-work-j-2 : goal.offset_bounds-work-j-2
-offset_bounds-work-j-2 c = let h = c.requires.1 in omega arith
-
 pub bounds-work-j-2 : goal.bounds-work-j-2
 bounds-work-j-2 c =
     let z = c.requires.0.size in
     let h = c.requires.1 in
     let j = c.args.j in
     subst (λ (k : ℕ). second_at_lem + j < k) (sym (length-set c.args.work.now (first_at + j) c.fed-a.result)) (omega arith)
-
-pub overflow_add-work-3 : goal.overflow_add-work-3
-overflow_add-work-3 c = let h = c.requires.1 in omega arith
-
-pub offset_bounds-work-j-3 : goal.offset_bounds-work-j-3
-offset_bounds-work-j-3 c = let h = c.requires.1 in omega arith
 
 pub bounds-work-j-3 : goal.bounds-work-j-3
 bounds-work-j-3 c =
@@ -92,12 +65,6 @@ bounds-work-j-3 c =
     let j = c.args.j in
     let w = c.args.work.now in
     subst (λ (k : ℕ). third_at + j < k) (sym (length-set (set w (first_at + j) c.fed-a.result) (second_at_lem + j) c.second.result ∙ length-set w (first_at + j) c.fed-a.result)) (omega arith)
-
-pub shape_of-work : goal.shape_of-work
-shape_of-work c =
-    let j = c.args.j in
-    let w = c.args.work.now in
-    length-set (set (set w (first_at + j) c.fed-a.result) (second_at_lem + j) c.second.result) (third_at + j) c.third.result ∙ length-set (set w (first_at + j) c.fed-a.result) (second_at_lem + j) c.second.result ∙ length-set w (first_at + j) c.fed-a.result
 
 pub returns : goal.returns
 returns c =

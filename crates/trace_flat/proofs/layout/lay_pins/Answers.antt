@@ -4,40 +4,13 @@ use mathlib.Core.Path.{◌≡◌, refl, sym, subst}
 use mathlib.Core.List.{List}
 use Prim.Native.Nat.{ℕ, ◌+◌, ◌/◌}
 use lib.ListN.{get_or, set}
-use mathlib.Core.Logic.{⊎_elim}
 use Rattle.trace_flat.specs.Flat.{PinsLaid, ins_at, outs_at}
 use Rattle.trace_flat.proofs.Laws.{Pinning, pinning_start, pin_low, pinning_in, pinning_out}
 use Rattle.trace_flat.proofs.layout.lay_pins.Goals as goal
 use Rattle.trace_flat.proofs.layout.lay_pins.Goals.{then-code-eq0, else-code-eq0}
 
 pub loop-k-init : goal.loop-k-init
-loop-k-init c = (omega arith, pinning_start _)
-
-pub overflow_add-k : goal.overflow_add-k
-overflow_add-k c =
-    let l = c.loop-k in
-    let u = c.args.work.now in
-    let n = c.args.pins in
-    let h = c.loop-k-test.true in
-    let z = l.invariant.1.laid.between.size in
-    let q = c.requires.size in
-    let few = c.requires.few in
-    let a = l.invariant.1.few_in in
-    let b = l.invariant.1.few_out in
-    omega arith
-
-pub at-code-requires : goal.at-code-requires
-at-code-requires c =
-    let l = c.loop-k in
-    let u = c.args.work.now in
-    let n = c.args.pins in
-    let h = c.loop-k-test.true in
-    let z = l.invariant.1.laid.between.size in
-    let q = c.requires.size in
-    let few = c.requires.few in
-    let a = l.invariant.1.few_in in
-    let b = l.invariant.1.few_out in
-    omega arith
+loop-k-init c = pinning_start _
 
 pub overflow_add-y : goal.overflow_add-y
 overflow_add-y c =
@@ -45,12 +18,12 @@ overflow_add-y c =
     let u = c.args.work.now in
     let n = c.args.pins in
     let h = c.loop-k-test.true in
-    let z = l.invariant.1.laid.between.size in
+    let z = l.invariant.laid.between.size in
     let q = c.requires.size in
     let few = c.requires.few in
-    let a = l.invariant.1.few_in in
-    let b = l.invariant.1.few_out in
-    let lo = pin_low u l.work n l.k l.i l.o c.at-code.result _ c.requires h l.invariant.1 c.at-code.ensures refl in
+    let a = l.invariant.few_in in
+    let b = l.invariant.few_out in
+    let lo = pin_low u l.work n l.k l.i l.o c.at-code.result _ c.requires h l.invariant c.at-code.ensures refl in
     omega arith
 
 pub offset_bounds-work-code : goal.offset_bounds-work-code
@@ -59,12 +32,12 @@ offset_bounds-work-code c =
     let u = c.args.work.now in
     let n = c.args.pins in
     let h = c.loop-k-test.true in
-    let z = l.invariant.1.laid.between.size in
+    let z = l.invariant.laid.between.size in
     let q = c.requires.size in
     let few = c.requires.few in
-    let a = l.invariant.1.few_in in
-    let b = l.invariant.1.few_out in
-    let lo = pin_low u l.work n l.k l.i l.o c.at-code.result _ c.requires h l.invariant.1 c.at-code.ensures refl in
+    let a = l.invariant.few_in in
+    let b = l.invariant.few_out in
+    let lo = pin_low u l.work n l.k l.i l.o c.at-code.result _ c.requires h l.invariant c.at-code.ensures refl in
     omega arith
 
 pub bounds-work-code : goal.bounds-work-code
@@ -73,142 +46,12 @@ bounds-work-code c =
     let u = c.args.work.now in
     let n = c.args.pins in
     let h = c.loop-k-test.true in
-    let z = l.invariant.1.laid.between.size in
+    let z = l.invariant.laid.between.size in
     let q = c.requires.size in
     let few = c.requires.few in
-    let a = l.invariant.1.few_in in
-    let b = l.invariant.1.few_out in
-    let lo = pin_low u l.work n l.k l.i l.o c.at-code.result _ c.requires h l.invariant.1 c.at-code.ensures refl in
-    omega arith
-
-pub overflow_add-work : goal.overflow_add-work
-overflow_add-work c =
-    let l = c.loop-k in
-    let u = c.args.work.now in
-    let n = c.args.pins in
-    let h = c.loop-k-test.true in
-    let z = l.invariant.1.laid.between.size in
-    let q = c.requires.size in
-    let few = c.requires.few in
-    let a = l.invariant.1.few_in in
-    let b = l.invariant.1.few_out in
-    omega arith
-
-pub offset_bounds-work-i : goal.offset_bounds-work-i
-offset_bounds-work-i c =
-    let l = c.loop-k in
-    let u = c.args.work.now in
-    let n = c.args.pins in
-    let h = c.loop-k-test.true in
-    let z = l.invariant.1.laid.between.size in
-    let q = c.requires.size in
-    let few = c.requires.few in
-    let a = l.invariant.1.few_in in
-    let b = l.invariant.1.few_out in
-    omega arith
-
-pub bounds-work-i : goal.bounds-work-i
-bounds-work-i c =
-    let l = c.loop-k in
-    let u = c.args.work.now in
-    let n = c.args.pins in
-    let h = c.loop-k-test.true in
-    let z = l.invariant.1.laid.between.size in
-    let q = c.requires.size in
-    let few = c.requires.few in
-    let a = l.invariant.1.few_in in
-    let b = l.invariant.1.few_out in
-    omega arith
-
-pub overflow_add-i : goal.overflow_add-i
-overflow_add-i c =
-    let l = c.loop-k in
-    let u = c.args.work.now in
-    let n = c.args.pins in
-    let h = c.loop-k-test.true in
-    let z = l.invariant.1.laid.between.size in
-    let q = c.requires.size in
-    let few = c.requires.few in
-    let a = l.invariant.1.few_in in
-    let b = l.invariant.1.few_out in
-    omega arith
-
-pub overflow_add-work-else-code-eq0 : goal.overflow_add-work-else-code-eq0
-overflow_add-work-else-code-eq0 c =
-    let l = c.loop-k in
-    let u = c.args.work.now in
-    let n = c.args.pins in
-    let h = c.loop-k-test.true in
-    let z = l.invariant.1.laid.between.size in
-    let q = c.requires.size in
-    let few = c.requires.few in
-    let a = l.invariant.1.few_in in
-    let b = l.invariant.1.few_out in
-    omega arith
-
-pub offset_bounds-work-o : goal.offset_bounds-work-o
-offset_bounds-work-o c =
-    let l = c.loop-k in
-    let u = c.args.work.now in
-    let n = c.args.pins in
-    let h = c.loop-k-test.true in
-    let z = l.invariant.1.laid.between.size in
-    let q = c.requires.size in
-    let few = c.requires.few in
-    let a = l.invariant.1.few_in in
-    let b = l.invariant.1.few_out in
-    omega arith
-
-pub bounds-work-o : goal.bounds-work-o
-bounds-work-o c =
-    let l = c.loop-k in
-    let u = c.args.work.now in
-    let n = c.args.pins in
-    let h = c.loop-k-test.true in
-    let z = l.invariant.1.laid.between.size in
-    let q = c.requires.size in
-    let few = c.requires.few in
-    let a = l.invariant.1.few_in in
-    let b = l.invariant.1.few_out in
-    omega arith
-
-pub overflow_add-o : goal.overflow_add-o
-overflow_add-o c =
-    let l = c.loop-k in
-    let u = c.args.work.now in
-    let n = c.args.pins in
-    let h = c.loop-k-test.true in
-    let z = l.invariant.1.laid.between.size in
-    let q = c.requires.size in
-    let few = c.requires.few in
-    let a = l.invariant.1.few_in in
-    let b = l.invariant.1.few_out in
-    omega arith
-
-pub overflow_add-k-in-loop-k : goal.overflow_add-k-in-loop-k
-overflow_add-k-in-loop-k c =
-    let l = c.loop-k in
-    let u = c.args.work.now in
-    let n = c.args.pins in
-    let h = c.loop-k-test.true in
-    let z = l.invariant.1.laid.between.size in
-    let q = c.requires.size in
-    let few = c.requires.few in
-    let a = l.invariant.1.few_in in
-    let b = l.invariant.1.few_out in
-    omega arith
-
-pub loop-k-smaller : goal.loop-k-smaller
-loop-k-smaller c =
-    let l = c.loop-k in
-    let u = c.args.work.now in
-    let n = c.args.pins in
-    let h = c.loop-k-test.true in
-    let z = l.invariant.1.laid.between.size in
-    let q = c.requires.size in
-    let few = c.requires.few in
-    let a = l.invariant.1.few_in in
-    let b = l.invariant.1.few_out in
+    let a = l.invariant.few_in in
+    let b = l.invariant.few_out in
+    let lo = pin_low u l.work n l.k l.i l.o c.at-code.result _ c.requires h l.invariant c.at-code.ensures refl in
     omega arith
 
 pub loop-k-preserved : goal.loop-k-preserved
@@ -217,26 +60,21 @@ loop-k-preserved c =
     let u = c.args.work.now in
     let n = c.args.pins in
     let h = c.loop-k-test.true in
-    let z = l.invariant.1.laid.between.size in
+    let z = l.invariant.laid.between.size in
     let q = c.requires.size in
     let few = c.requires.few in
-    let a = l.invariant.1.few_in in
-    let b = l.invariant.1.few_out in
-    let y = get_or l.work (19072 + c.at-code.result / 2) 0 in (
-      omega arith,
-      (elim c.if-code-eq0.branch [
-        | then-code-eq0 v ↦ subst (λ (x : List ℕ). Pinning u (l.k + 1) x c.if-code-eq0.i c.if-code-eq0.o) (sym v.work-is) (subst (λ (x : ℕ). Pinning u (l.k + 1) (set l.work (ins_at + l.i) y) x c.if-code-eq0.o) (sym v.i-is)
-            (subst (λ (x : ℕ). Pinning u (l.k + 1) (set l.work (ins_at + l.i) y) (l.i + 1) x) (sym v.o-is) (pinning_in u l.work n l.k l.i l.o c.at-code.result y c.requires h l.invariant.1 c.at-code.ensures refl v.if-code-eq0.true)))
-        | else-code-eq0 v ↦ subst (λ (x : List ℕ). Pinning u (l.k + 1) x c.if-code-eq0.i c.if-code-eq0.o) (sym v.work-is) (subst (λ (x : ℕ). Pinning u (l.k + 1) (set l.work (outs_at + l.o) y) x c.if-code-eq0.o) (sym v.i-is)
-            (subst (λ (x : ℕ). Pinning u (l.k + 1) (set l.work (outs_at + l.o) y) l.i x) (sym v.o-is) (pinning_out u l.work n l.k l.i l.o c.at-code.result y c.requires h l.invariant.1 c.at-code.ensures refl v.if-code-eq0.false)))
-      ]),
-    )
-
-pub shape_of-work : goal.shape_of-work
-shape_of-work c = c.loop-k.invariant.1.laid.between.size
+    let a = l.invariant.few_in in
+    let b = l.invariant.few_out in
+    let y = get_or l.work (19072 + c.at-code.result / 2) 0 in
+    elim c.if-code-eq0.branch [
+      | then-code-eq0 v ↦ subst (λ (x : List ℕ). Pinning u (l.k + 1) x c.if-code-eq0.i c.if-code-eq0.o) (sym v.work-is) (subst (λ (x : ℕ). Pinning u (l.k + 1) (set l.work (ins_at + l.i) y) x c.if-code-eq0.o) (sym v.i-is)
+          (subst (λ (x : ℕ). Pinning u (l.k + 1) (set l.work (ins_at + l.i) y) (l.i + 1) x) (sym v.o-is) (pinning_in u l.work n l.k l.i l.o c.at-code.result y c.requires h l.invariant c.at-code.ensures refl v.if-code-eq0.true)))
+      | else-code-eq0 v ↦ subst (λ (x : List ℕ). Pinning u (l.k + 1) x c.if-code-eq0.i c.if-code-eq0.o) (sym v.work-is) (subst (λ (x : ℕ). Pinning u (l.k + 1) (set l.work (outs_at + l.o) y) x c.if-code-eq0.o) (sym v.i-is)
+          (subst (λ (x : ℕ). Pinning u (l.k + 1) (set l.work (outs_at + l.o) y) l.i x) (sym v.o-is) (pinning_out u l.work n l.k l.i l.o c.at-code.result y c.requires h l.invariant c.at-code.ensures refl v.if-code-eq0.false)))
+    ]
 
 pub returns : goal.returns
 returns c =
     let l = c.loop-k in
     let e : l.k ≡ c.args.pins = omega arith in
-    subst (λ (k : ℕ). PinsLaid c.args.work.now k l.work) e l.invariant.1.laid
+    subst (λ (k : ℕ). PinsLaid c.args.work.now k l.work) e l.invariant.laid

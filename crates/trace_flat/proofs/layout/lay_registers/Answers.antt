@@ -8,13 +8,7 @@ use Rattle.trace_flat.proofs.Laws.{sources-start, register-same, source_low, sou
 use Rattle.trace_flat.proofs.layout.lay_registers.Goals as goal
 
 pub loop-j-init : goal.loop-j-init
-loop-j-init c = (omega arith, sources-start _)
-
-pub overflow_add-j : goal.overflow_add-j
-overflow_add-j c = let few = c.requires.1 in omega arith
-
-pub at-o-requires : goal.at-o-requires
-at-o-requires c = let z = c.loop-j.invariant.1.between.size in let q = c.requires.0.size in let few = c.requires.1 in omega arith
+loop-j-init c = sources-start _
 
 pub overflow_sub-o : goal.overflow_sub-o
 overflow_sub-o c =
@@ -22,13 +16,13 @@ overflow_sub-o c =
     let u = c.args.work.now in
     let n = c.args.regs in
     let h = c.loop-j-test.true in
-    let z = l.invariant.1.between.size in
+    let z = l.invariant.between.size in
     let q = c.requires.0.size in
     let few = c.requires.1 in
     let r = c.requires.0.each l.j h in
     let lo = r.low in
     let so = r.some in
-    let e = register-same u l.work n l.j c.requires.0 c.requires.1 h l.invariant.1 in
+    let e = register-same u l.work n l.j c.requires.0 c.requires.1 h l.invariant in
     let a = c.at-o.ensures in
     omega arith
 
@@ -38,31 +32,16 @@ fed-y-requires c =
     let u = c.args.work.now in
     let n = c.args.regs in
     let h = c.loop-j-test.true in
-    let z = l.invariant.1.between.size in
+    let z = l.invariant.between.size in
     let q = c.requires.0.size in
     let few = c.requires.1 in
     let r = c.requires.0.each l.j h in
     let lo = r.low in
     let so = r.some in
-    let e = register-same u l.work n l.j c.requires.0 c.requires.1 h l.invariant.1 in
+    let e = register-same u l.work n l.j c.requires.0 c.requires.1 h l.invariant in
     let a = c.at-o.ensures in
     let x : c.at-o.result ≡ get_or u (8192 + l.j) 0 = a ∙ e in
-    (omega arith, (omega arith, subst (λ (y : ℕ). get_or l.work (y - 1) 0 < 8192) (sym x) (source_low u l.work n l.j c.requires.0 c.requires.1 h l.invariant.1)))
-
-pub overflow_add-work : goal.overflow_add-work
-overflow_add-work c = let few = c.requires.1 in omega arith
-
-pub offset_bounds-work-j : goal.offset_bounds-work-j
-offset_bounds-work-j c = let few = c.requires.1 in omega arith
-
-pub bounds-work-j : goal.bounds-work-j
-bounds-work-j c = let z = c.loop-j.invariant.1.between.size in let q = c.requires.0.size in let few = c.requires.1 in omega arith
-
-pub overflow_add-j-in-loop-j : goal.overflow_add-j-in-loop-j
-overflow_add-j-in-loop-j c = let few = c.requires.1 in omega arith
-
-pub loop-j-smaller : goal.loop-j-smaller
-loop-j-smaller c = let few = c.requires.1 in omega arith
+    (omega arith, (omega arith, subst (λ (y : ℕ). get_or l.work (y - 1) 0 < 8192) (sym x) (source_low u l.work n l.j c.requires.0 c.requires.1 h l.invariant)))
 
 pub loop-j-preserved : goal.loop-j-preserved
 loop-j-preserved c =
@@ -70,21 +49,18 @@ loop-j-preserved c =
     let u = c.args.work.now in
     let n = c.args.regs in
     let h = c.loop-j-test.true in
-    let z = l.invariant.1.between.size in
+    let z = l.invariant.between.size in
     let q = c.requires.0.size in
     let few = c.requires.1 in
     let r = c.requires.0.each l.j h in
     let lo = r.low in
     let so = r.some in
-    let e = register-same u l.work n l.j c.requires.0 c.requires.1 h l.invariant.1 in
+    let e = register-same u l.work n l.j c.requires.0 c.requires.1 h l.invariant in
     let a = c.at-o.ensures in
-    (omega arith, sources_next u l.work n l.j c.requires.0 c.requires.1 h l.invariant.1 c.fed-y.result c.at-o.result c.fed-y.ensures a)
-
-pub shape_of-work : goal.shape_of-work
-shape_of-work c = c.loop-j.invariant.1.between.size
+    sources_next u l.work n l.j c.requires.0 c.requires.1 h l.invariant c.fed-y.result c.at-o.result c.fed-y.ensures a
 
 pub returns : goal.returns
 returns c =
     let l = c.loop-j in
     let e : l.j ≡ c.args.regs = omega arith in
-    subst (λ (k : ℕ). SourcesLaid c.args.work.now k l.work) e l.invariant.1
+    subst (λ (k : ℕ). SourcesLaid c.args.work.now k l.work) e l.invariant

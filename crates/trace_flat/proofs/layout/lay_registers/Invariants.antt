@@ -1,10 +1,6 @@
 -- The invariant: the first j registers are laid out. Assumes nothing.
-use Prim.Native.Nat.{◌-◌, ◌≤◌}
 use Rattle.trace_flat.specs.Flat.{SourcesLaid}
 use Rattle.trace_flat.proofs.layout.lay_registers.Given as goal
 
 abbrev pub invariant-loop-j : goal.invariant-loop-j
-invariant-loop-j l = (l.j ≤ l.regs) × SourcesLaid l.initial.work l.j l.work
-
-abbrev pub decreases-loop-j : goal.decreases-loop-j
-decreases-loop-j l = l.regs - l.j
+invariant-loop-j l = SourcesLaid l.initial.work l.j l.work

@@ -9,41 +9,20 @@ use Rattle.trace_flat.proofs.Laws.{between_none, between-set, stretch-step, sour
 use Rattle.trace_flat.proofs.steps.hold.Goals as goal
 
 pub loop-j-init : goal.loop-j-init
-loop-j-init c = (omega arith, (between_none _ _ _, refl))
-
-pub overflow_add-j : goal.overflow_add-j
-overflow_add-j c = let few = c.requires.few in omega arith
+loop-j-init c = (between_none _ _ _, refl)
 
 pub there-requires : goal.there-requires
-there-requires c = let l = c.loop-j in let z = l.invariant.1.0.size in let q = c.requires.size in let few = c.requires.few in let p = source-between l.invariant.1.0 c.requires l.j c.loop-j-test.true in (omega arith, omega arith)
-
-pub overflow_add-work : goal.overflow_add-work
-overflow_add-work c = let few = c.requires.few in omega arith
-
-pub offset_bounds-work-j : goal.offset_bounds-work-j
-offset_bounds-work-j c = let few = c.requires.few in omega arith
-
-pub bounds-work-j : goal.bounds-work-j
-bounds-work-j c = let z = c.loop-j.invariant.1.0.size in let q = c.requires.size in let few = c.requires.few in omega arith
-
-pub overflow_add-j-in-loop-j : goal.overflow_add-j-in-loop-j
-overflow_add-j-in-loop-j c = let few = c.requires.few in omega arith
-
-pub loop-j-smaller : goal.loop-j-smaller
-loop-j-smaller c = omega arith
+there-requires c = let l = c.loop-j in let z = l.invariant.0.size in let q = c.requires.size in let few = c.requires.few in let p = source-between l.invariant.0 c.requires l.j c.loop-j-test.true in (omega arith, omega arith)
 
 pub loop-j-preserved : goal.loop-j-preserved
 loop-j-preserved c =
     let l = c.loop-j in
-    let z = l.invariant.1.0.size in
+    let z = l.invariant.0.size in
     let few = c.requires.few in
-    stretch-step next_at shown_at flat_hold c.args.work.now l.work _ l.j c.args.regs c.loop-j-test.true l.invariant.1.0 l.invariant.1.1 (ap (λ (x : ℕ). set l.work (next_at + l.j) x) c.there.ensures) (between-set next_at shown_at l.work (next_at + l.j) _ (omega arith) (omega arith))
-
-pub shape_of-work : goal.shape_of-work
-shape_of-work c = c.loop-j.invariant.1.0.size
+    stretch-step next_at shown_at flat_hold c.args.work.now l.work _ l.j l.invariant.0 l.invariant.1 (ap (λ (x : ℕ). set l.work (next_at + l.j) x) c.there.ensures) (between-set next_at shown_at l.work (next_at + l.j) _ (omega arith) (omega arith))
 
 pub returns : goal.returns
 returns c =
     let l = c.loop-j in
     let a = c.args in
-    record { between = l.invariant.1.0; whole = turns-all flat_hold l.j a.regs a.work.now l.work (omega arith) l.invariant.1.1 }
+    record { between = l.invariant.0; whole = turns-all flat_hold l.j a.regs a.work.now l.work (omega arith) l.invariant.1 }

@@ -9,44 +9,17 @@ use Rattle.trace_steps.specs.Map.{order_at}
 use Rattle.trace_flat.proofs.steps.turn.Goals as goal
 
 pub loop-j-init : goal.loop-j-init
-loop-j-init c = (omega arith, (between_none _ _ _, refl))
-
-pub overflow_add-work : goal.overflow_add-work
-overflow_add-work c = let few = c.requires.1 in omega arith
-
-pub offset_bounds-work-j : goal.offset_bounds-work-j
-offset_bounds-work-j c = let few = c.requires.1 in omega arith
-
-pub bounds-work-j : goal.bounds-work-j
-bounds-work-j c = let z = c.loop-j.invariant.1.0.size in let q = c.requires.0 in let few = c.requires.1 in omega arith
-
-pub overflow_add-work-in-loop-j : goal.overflow_add-work-in-loop-j
-overflow_add-work-in-loop-j c = let few = c.requires.1 in omega arith
-
-pub offset_bounds-work-j-in-loop-j : goal.offset_bounds-work-j-in-loop-j
-offset_bounds-work-j-in-loop-j c = let few = c.requires.1 in omega arith
-
-pub bounds-work-j-in-loop-j : goal.bounds-work-j-in-loop-j
-bounds-work-j-in-loop-j c = let z = c.loop-j.invariant.1.0.size in let q = c.requires.0 in let few = c.requires.1 in omega arith
-
-pub overflow_add-j : goal.overflow_add-j
-overflow_add-j c = let few = c.requires.1 in omega arith
-
-pub loop-j-smaller : goal.loop-j-smaller
-loop-j-smaller c = omega arith
+loop-j-init c = (between_none _ _ _, refl)
 
 pub loop-j-preserved : goal.loop-j-preserved
 loop-j-preserved c =
     let l = c.loop-j in
-    let z = l.invariant.1.0.size in
+    let z = l.invariant.0.size in
     let few = c.requires.1 in
-    stretch-step shown_at order_at flat_turn c.args.work.now l.work _ l.j c.args.regs c.loop-j-test.true l.invariant.1.0 l.invariant.1.1 (refl) (between-set shown_at order_at l.work (shown_at + l.j) _ (omega arith) (omega arith))
-
-pub shape_of-work : goal.shape_of-work
-shape_of-work c = c.loop-j.invariant.1.0.size
+    stretch-step shown_at order_at flat_turn c.args.work.now l.work _ l.j l.invariant.0 l.invariant.1 (refl) (between-set shown_at order_at l.work (shown_at + l.j) _ (omega arith) (omega arith))
 
 pub returns : goal.returns
 returns c =
     let l = c.loop-j in
     let a = c.args in
-    record { between = l.invariant.1.0; whole = turns-all flat_turn l.j a.regs a.work.now l.work (omega arith) l.invariant.1.1 }
+    record { between = l.invariant.0; whole = turns-all flat_turn l.j a.regs a.work.now l.work (omega arith) l.invariant.1 }

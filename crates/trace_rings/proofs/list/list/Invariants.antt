@@ -4,6 +4,3 @@ use Rattle.trace_rings.proofs.list.list.Given as goal
 
 abbrev pub invariant-loop-x : goal.invariant-loop-x
 invariant-loop-x l = Choosing l.initial.work l.end l.x l.work l.n
-
-abbrev pub decreases-loop-x : goal.decreases-loop-x
-decreases-loop-x l = l.x

@@ -4,6 +4,3 @@ use Rattle.trace_rings.proofs.ring.lowest.Given as goal
 
 abbrev pub invariant-loop-j : goal.invariant-loop-j
 invariant-loop-j l = SeekingRing l.initial.work l.left l.work l.j l.stamp
-
-abbrev pub decreases-loop-j : goal.decreases-loop-j
-decreases-loop-j l = l.j

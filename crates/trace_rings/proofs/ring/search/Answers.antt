@@ -1,18 +1,7 @@
 -- The invariant: what the first h that are met look at is covered. What is met is one of those left, once. Assumes nothing.
 use native.Mathlib.Omega.{arith}
-use mathlib.Core.Path.{sym, subst}
-use Prim.Native.Nat.{ℕ, ◌<◌}
-use Rattle.trace_rings.proofs.SearchLaws.{Began, began, among-low, among-source, going_start, going_few, going_size, going_looks, going_next, going_end}
+use Rattle.trace_rings.proofs.SearchLaws.{Began, began, going_start, going_few, going_size, going_looks, going_next, going_end}
 use Rattle.trace_rings.proofs.ring.search.Goals as goal
-
-pub at-first-requires : goal.at-first-requires
-at-first-requires c =
-    let size = c.requires.0.size in
-    omega (arith, among-low c.args.work.now c.args.left c.args.x c.requires.0 c.requires.1.0)
-
-pub meet-n-requires : goal.meet-n-requires
-meet-n-requires c =
-    (c.requires.0.size, (subst (λ (y : ℕ). y < 8192) (sym c.at-first.ensures) (among-source c.args.work.now c.args.left c.args.x c.requires.0 c.requires.1.0), omega arith))
 
 pub loop-h-init : goal.loop-h-init
 loop-h-init c = going_start _ _ _ _ _
@@ -42,13 +31,6 @@ look-n-requires c =
       omega (arith, going_few c.args.work.now c.args.left c.args.x c.args.stamp c.meet-n.new.work c.meet-n.result b l.work l.n l.h l.invariant),
     )
 
-pub overflow_add-h-in-loop-h : goal.overflow_add-h-in-loop-h
-overflow_add-h-in-loop-h c =
-    let l = c.loop-h in
-    let b : Began c.args.work.now c.args.left c.args.x c.args.stamp c.meet-n.new.work c.meet-n.result = began c.args.work.now c.args.left c.args.x c.args.stamp c.at-first.result c.meet-n.new.work c.meet-n.result c.requires.0 c.requires.1.0 c.requires.1.1 c.at-first.ensures c.meet-n.ensures in
-    let h = c.loop-h-test.true in
-    omega (arith, going_few c.args.work.now c.args.left c.args.x c.args.stamp c.meet-n.new.work c.meet-n.result b l.work l.n l.h l.invariant)
-
 pub loop-h-smaller : goal.loop-h-smaller
 loop-h-smaller c =
     let l = c.loop-h in
@@ -62,12 +44,6 @@ loop-h-preserved c =
     let h = c.loop-h-test.true in
     let o = c.at-o in
     going_next _ _ _ _ _ l.work l.n l.h l.invariant h o.result c.look-n.new.work c.look-n.result o.ensures c.look-n.ensures
-
-pub shape_of-work : goal.shape_of-work
-shape_of-work c =
-    let l = c.loop-h in
-    let b : Began c.args.work.now c.args.left c.args.x c.args.stamp c.meet-n.new.work c.meet-n.result = began c.args.work.now c.args.left c.args.x c.args.stamp c.at-first.result c.meet-n.new.work c.meet-n.result c.requires.0 c.requires.1.0 c.requires.1.1 c.at-first.ensures c.meet-n.ensures in
-    going_size c.args.work.now c.args.left c.args.x c.args.stamp c.meet-n.new.work c.meet-n.result b l.work l.n l.h l.invariant
 
 pub returns : goal.returns
 returns c =

@@ -1,13 +1,8 @@
--- The invariant: so many ticks are run, and so many bytes read and written. Assumes nothing.
-use mathlib.Core.Path.{◌≡◌}
-use Prim.Native.Nat.{◌*◌, ◌-◌, ◌≤◌}
+-- The invariant: so many ticks are run. Assumes nothing.
 use Rattle.trace_steps.specs.Words.{lane_zero}
 use Rattle.trace_steps.specs.Ticks.{sizes, Ran}
 use Rattle.trace_steps.proofs.ticks.run.Given as goal
 
 abbrev pub invariant-loop-t : goal.invariant-loop-t
 invariant-loop-t l =
-    (l.t ≤ l.ticks) × ((l.from ≡ l.t * l.reads) × ((l.to ≡ l.t * l.writes) × Ran lane_zero (sizes l.settled l.regs l.pins) l.inputs l.reads l.writes l.t l.initial.work l.initial.out l.work l.out))
-
-abbrev pub decreases-loop-t : goal.decreases-loop-t
-decreases-loop-t l = l.ticks - l.t
+    Ran lane_zero (sizes l.settled l.regs l.pins) l.inputs l.reads l.writes l.t l.initial.work l.initial.out l.work l.out

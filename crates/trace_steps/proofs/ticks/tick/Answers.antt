@@ -2,26 +2,14 @@
 use native.Mathlib.Omega.{arith}
 use Rattle.lean.proofs.TableLaws.{within_then}
 use Rattle.trace_steps.specs.Words.{lane_zero}
-use Rattle.trace_steps.proofs.TickLaws.{ordered_within, registers-within, pins_within, outs-within, tick_is}
+use Rattle.trace_steps.proofs.TickLaws.{pins_within, outs-within, tick_is}
 use Rattle.trace_steps.proofs.ticks.tick.Goals as goal
-
-pub pass-requires : goal.pass-requires
-pass-requires c =
-    ordered_within c.load-read.ensures.within c.requires.0.order
 
 pub store-written-requires : goal.store-written-requires
 store-written-requires c =
     let i = within_then c.load-read.ensures.within c.pass.ensures.within in
     let q = c.requires.1.1 in
     (pins_within i c.requires.0.pins, omega (arith, outs-within _ _ i c.args.pins c.requires.0.pins.few))
-
-pub clock-requires : goal.clock-requires
-clock-requires c =
-    registers-within (within_then c.load-read.ensures.within c.pass.ensures.within) c.requires.0.registers
-
-pub clock-requires-2 : goal.clock-requires-2
-clock-requires-2 c =
-    registers-within (within_then (within_then c.load-read.ensures.within c.pass.ensures.within) c.clock.ensures.within) c.requires.0.registers
 
 pub returns : goal.returns
 returns c =

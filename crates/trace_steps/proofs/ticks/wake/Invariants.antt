@@ -1,13 +1,9 @@
 -- The invariant: the first j registers have their start bits. Assumes nothing.
 use mathlib.Core.Path.{◌≡◌}
-use Prim.Native.Nat.{◌≤◌, ◌-◌}
 use Rattle.lean.specs.Table.{Within}
 use Rattle.trace_steps.specs.Turns.{take_turns}
 use Rattle.trace_steps.specs.Steps.{wake_one}
 use Rattle.trace_steps.proofs.ticks.wake.Given as goal
 
 abbrev pub invariant-loop-j : goal.invariant-loop-j
-invariant-loop-j l = (l.j ≤ l.regs) × (Within l.initial.work l.work × (l.work ≡ take_turns (wake_one l.starts) l.j 0 l.initial.work))
-
-abbrev pub decreases-loop-j : goal.decreases-loop-j
-decreases-loop-j l = l.regs - l.j
+invariant-loop-j l = Within l.initial.work l.work × (l.work ≡ take_turns (wake_one l.starts) l.j 0 l.initial.work)

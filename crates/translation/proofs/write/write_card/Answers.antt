@@ -14,7 +14,11 @@ use Rattle.export_calculus.specs.Card.{profiled}
 use Rattle.lean.specs.Layout.{Leant}
 use Rattle.lean.proofs.LeantLaws.{made_bytes, made_ready}
 use Rattle.translator.specs.Said.{in_room, AnswerSays}
-use Rattle.translation.specs.Wished.{said_wish}
+use Rattle.calculus.specs.Lean.{lean}
+use Rattle.answers.proofs.Passed.{passed}
+use Rattle.std.specs.declared.result.Result.{Result}
+use Rattle.answers.specs.declared.Refusal.{Refusal}
+use Rattle.translation.specs.Wished.{said_wish, on_pass}
 use Rattle.translation.proofs.WriteLaws.{wished_says, made-full, made-known, made_keeps, check_refused, check-passed}
 use Rattle.translation.proofs.write.write_card.Goals as goal
 
@@ -23,17 +27,12 @@ judge-requires c =
     let a = c.args in
     markable a.work.now a.counts.elements a.counts.wires a.counts.pins c.requires.0 c.make_lean-end.new.work c.make_lean-end.result c.make_lean-end.ensures
 
-pub write_lean-requires : goal.write_lean-requires
-write_lean-requires c =
-    let a = c.args in
-    (subst (λ (x : List ℕ). Leant a.work.now a.counts.elements a.counts.wires a.counts.pins x c.make_lean-end.result) (sym c.judge.ensures.1) c.make_lean-end.ensures).ready
-
 pub returns-then-wish : goal.returns-then-wish
 returns-then-wish c =
     let a = c.args in
     let x = c.judge.new.work in
     let l = subst (λ (x : List ℕ). Leant a.work.now a.counts.elements a.counts.wires a.counts.pins x c.make_lean-end.result) (sym c.judge.ensures.1) c.make_lean-end.ensures in (
-      check-passed _ _ _ _ _ (ap said_judged (sym c.in-Passes.is) ∙ c.judge.ensures.0 ∙ ap (profiled (chain_in a.records.now 256 a.root)) c.make_lean-end.ensures.net)
+      check-passed _ _ _ _ _ (ap said_judged (sym c.in_ok-judge.was) ∙ c.judge.ensures.0 ∙ ap (profiled (chain_in a.records.now 256 a.root)) c.make_lean-end.ensures.net)
           (wished_says (said_wish a.wish) true a.out.now _ c.write_lean.result (net_in a.work.now a.counts.elements a.counts.wires a.counts.pins) (region a.work.now makers_at a.counts.elements) c.if-wish.true
           (subst (λ (b : List ℕ). AnswerSays c.write_lean.result a.out.now c.write_lean.new.out (in_room b (length a.out.now))) (made_bytes a.work.now x a.counts.elements a.counts.wires a.counts.pins c.make_lean-end.result c.requires.0 l a.wish.plain) c.write_lean.ensures)),
       made_keeps a.work.now x a.counts.elements a.counts.wires a.counts.pins c.make_lean-end.result c.requires.0 l,
@@ -48,22 +47,23 @@ write_full-requires c =
       made-known a.work.now x a.counts.elements a.counts.wires a.counts.pins c.make_lean-end.result c.requires.0 l c.requires.1,
     )
 
-pub returns-in-Refused : goal.returns-in-Refused
-returns-in-Refused c =
+pub returns-in_err-judge : goal.returns-in_err-judge
+returns-in_err-judge c =
     let a = c.args in
     let x = c.judge.new.work in
-    let l = subst (λ (x : List ℕ). Leant a.work.now a.counts.elements a.counts.wires a.counts.pins x c.make_lean-end.result) (sym c.judge.ensures.1) c.make_lean-end.ensures in (
-      rw c.refused.ensures (check_refused _ _ _ _ (in_room (asked_bytes (said_wish a.wish) (net_in a.work.now a.counts.elements a.counts.wires a.counts.pins) (region a.work.now makers_at a.counts.elements)) (length a.out.now))
-          (ap said_judged (sym c.in-Refused.is) ∙ c.judge.ensures.0 ∙ ap (profiled (chain_in a.records.now 256 a.root)) c.make_lean-end.ensures.net)),
+    let l = subst (λ (x : List ℕ). Leant a.work.now a.counts.elements a.counts.wires a.counts.pins x c.make_lean-end.result) (sym c.judge.ensures.1) c.make_lean-end.ensures in
+    let bytes = in_room (asked_bytes (said_wish a.wish) (net_in a.work.now a.counts.elements a.counts.wires a.counts.pins) (region a.work.now makers_at a.counts.elements)) (length a.out.now) in (
+      subst (λ (r : Result ℕ Refusal). AnswerSays r a.out.now a.out.now (on_pass (profiled (chain_in a.records.now 256 a.root) (lean (net_in a.work.now a.counts.elements a.counts.wires a.counts.pins))) bytes)) (sym (passed _ c.from_residual.ensures.1))
+          (check_refused _ _ _ bytes (ap said_judged (sym c.in_err-judge.was) ∙ c.judge.ensures.0 ∙ ap (profiled (chain_in a.records.now 256 a.root)) c.make_lean-end.ensures.net)),
       made_keeps a.work.now x a.counts.elements a.counts.wires a.counts.pins c.make_lean-end.result c.requires.0 l,
     )
 
-pub returns-else-wish : goal.returns-else-wish
-returns-else-wish c =
+pub returns : goal.returns
+returns c =
     let a = c.args in
     let x = c.judge.new.work in
     let l = subst (λ (x : List ℕ). Leant a.work.now a.counts.elements a.counts.wires a.counts.pins x c.make_lean-end.result) (sym c.judge.ensures.1) c.make_lean-end.ensures in (
-      check-passed _ _ _ _ _ (ap said_judged (sym c.in-Passes.is) ∙ c.judge.ensures.0 ∙ ap (profiled (chain_in a.records.now 256 a.root)) c.make_lean-end.ensures.net)
+      check-passed _ _ _ _ _ (ap said_judged (sym c.in_ok-judge.was) ∙ c.judge.ensures.0 ∙ ap (profiled (chain_in a.records.now 256 a.root)) c.make_lean-end.ensures.net)
           (wished_says (said_wish a.wish) false a.out.now _ c.write_full.result (net_in a.work.now a.counts.elements a.counts.wires a.counts.pins) (region a.work.now makers_at a.counts.elements) c.if-wish.false
           (subst (λ (b : List ℕ). AnswerSays c.write_full.result a.out.now c.write_full.new.out (in_room b (length a.out.now))) (made-full a.work.now x a.counts.elements a.counts.wires a.counts.pins c.make_lean-end.result c.requires.0 l a.wish.plain) c.write_full.ensures)),
       made_keeps a.work.now x a.counts.elements a.counts.wires a.counts.pins c.make_lean-end.result c.requires.0 l,

@@ -11,7 +11,7 @@ use Rattle.translation.proofs.write.write_lean.Goals as goal
 pub returns-then-out-n : goal.returns-then-out-n
 returns-then-out-n c =
     let a = c.args in
-    rw c.refused.ensures (says_short (written a.plain (lean_in a.work.now a.end a.pins) (lean_makers_in a.work.now a.end 0 (drop makers_at a.work.now))) a.out.now c.lean_length-n.result c.lean_length-n.ensures c.if-out-n.true)
+    rw c.at.ensures (says_short (written a.plain (lean_in a.work.now a.end a.pins) (lean_makers_in a.work.now a.end 0 (drop makers_at a.work.now))) a.out.now c.lean_length-n.result c.lean_length-n.ensures c.if-out-n.true)
 
 pub returns : goal.returns
 returns c =

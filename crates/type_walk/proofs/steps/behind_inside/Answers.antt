@@ -11,4 +11,4 @@ pub returns-then-w-eq-END_ROUND : goal.returns-then-w-eq-END_ROUND
 returns-then-w-eq-END_ROUND c = inside-closed _ _ (said_word c.word_at-w.result) c.word_at-w.ensures _ _ _ _ _ c.if-w-eq-END_ROUND.true c.side_from.ensures
 
 pub returns : goal.returns
-returns c = inside-open _ _ (said_word c.word_at-w.result) c.word_at-w.ensures _ _ _ c.if-w-eq-END_ROUND.false
+returns c = rw c.at.ensures (inside-open _ _ (said_word c.word_at-w.result) c.word_at-w.ensures _ _ _ c.if-w-eq-END_ROUND.false)

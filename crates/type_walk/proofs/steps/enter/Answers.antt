@@ -23,4 +23,4 @@ pub returns-then-w-eq-ROUND : goal.returns-then-w-eq-ROUND
 returns-then-w-eq-ROUND c = enter-round _ _ (said_word c.word_at-w.result) c.word_at-w.ensures _ _ _ _ c.if-w-eq-ROUND.true c.ask_inside.ensures
 
 pub returns : goal.returns
-returns c = enter-none _ _ (said_word c.word_at-w.result) c.word_at-w.ensures _ _ c.if-w-eq-NAME.false c.if-w-eq-NUMBER.false c.if-w-eq-ROUND.false
+returns c = rw c.at.ensures (enter-none _ _ (said_word c.word_at-w.result) c.word_at-w.ensures _ _ c.if-w-eq-NAME.false c.if-w-eq-NUMBER.false c.if-w-eq-ROUND.false)

@@ -1,5 +1,5 @@
--- `type_walk::steps::step` meets its contract: by whether a type is wanted or came; a refusal is no step. Assumes nothing.
-use Rattle.type_walk.proofs.StepLaws.{step_can, step_as, step_refused}
+-- `type_walk::steps::step` meets its contract: by whether a type is wanted or came. Assumes nothing.
+use Rattle.type_walk.proofs.StepLaws.{step_can, step_as}
 use Rattle.type_walk.proofs.steps.step.Goals as goal
 
 pub want_step-requires : goal.want_step-requires
@@ -13,6 +13,3 @@ returns-in-Wanted c = step_as _ _ _ _ _ _ c.in-Wanted.is c.want_step.ensures
 
 pub returns-in-Came : goal.returns-in-Came
 returns-in-Came c = step_as _ _ _ _ _ _ c.in-Came.is c.come_step.ensures
-
-pub returns-in-Refused : goal.returns-in-Refused
-returns-in-Refused c = step_refused _ _ _ _ _ _ c.in-Refused.is

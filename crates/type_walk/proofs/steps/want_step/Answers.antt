@@ -4,7 +4,7 @@ use Rattle.type_walk.proofs.StepLaws.{want_zero, want-can, want-moved}
 use Rattle.type_walk.proofs.steps.want_step.Goals as goal
 
 pub returns-then-q-eq0 : goal.returns-then-q-eq0
-returns-then-q-eq0 c = want_zero _ _ _ (said_word c.word_at-w.result) c.word_at-w.ensures c.if-q-eq0.true
+returns-then-q-eq0 c = rw c.at.ensures (want_zero _ _ _ (said_word c.word_at-w.result) c.word_at-w.ensures c.if-q-eq0.true)
 
 pub enter-requires : goal.enter-requires
 enter-requires c = (want-can _ _ _ c.if-q-eq0.false c.requires, c.requires.held.lexed)

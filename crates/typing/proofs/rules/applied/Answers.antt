@@ -6,7 +6,7 @@ pub returns-then-q-k : goal.returns-then-q-k
 returns-then-q-k c = applied-kind _ c.sides_of-q.ensures _ _ _ c.if-q-k.true
 
 pub returns-then-a-q : goal.returns-then-a-q
-returns-then-a-q c = applied-left _ c.sides_of-q.ensures _ _ _ c.number.ensures c.if-q-k.false c.if-a-q.true
+returns-then-a-q c = applied-left _ c.sides_of-q.ensures _ _ _ c.from.ensures c.if-q-k.false c.if-a-q.true
 
 pub returns : goal.returns
 returns c = applied-fits _ c.sides_of-q.ensures _ _ _ c.if-q-k.false c.if-a-q.false

@@ -9,6 +9,3 @@ returns-in-Shared c = rw c.in-Shared.is
 
 pub returns-in-Linear : goal.returns-in-Linear
 returns-in-Linear c = rw c.in-Linear.is
-
-pub returns-in-Misfit : goal.returns-in-Misfit
-returns-in-Misfit c = rw c.in-Misfit.is

@@ -1,5 +1,5 @@
--- `typing::rules::type_number` meets its contract. The invariant: none of the first k types is the part's. The measure is the types left. Assumes nothing.
-use Prim.Native.Nat.{◌-◌, ◌≤◌}
+-- `typing::rules::type_number` meets its contract. The invariant: none of the first k types is the part's. Assumes nothing.
+use Prim.Native.Nat.{◌-◌}
 use mathlib.Core.Path.{◌≡◌}
 use Rattle.records.specs.Forms.{rec_in}
 use Rattle.records.specs.Editions.{edition_by}
@@ -8,7 +8,4 @@ use Rattle.typing.specs.Steps.{stands_for, ty_in, number_below}
 use Rattle.typing.proofs.rules.type_number.Given as goal
 
 abbrev pub invariant-loop-k : goal.invariant-loop-k
-invariant-loop-k l = (l.k ≤ l.types) × (number_below (stands_for (rec_in l.s) (ty_in (said_part l.part) (edition_by l.second))) l.types 0 ≡ number_below (stands_for (rec_in l.s) (ty_in (said_part l.part) (edition_by l.second))) (l.types - l.k) l.k)
-
-abbrev pub decreases-loop-k : goal.decreases-loop-k
-decreases-loop-k l = l.types - l.k
+invariant-loop-k l = number_below (stands_for (rec_in l.s) (ty_in (said_part l.part) (edition_by l.second))) l.types 0 ≡ number_below (stands_for (rec_in l.s) (ty_in (said_part l.part) (edition_by l.second))) (l.types - l.k) l.k

@@ -1,5 +1,4 @@
 -- By the entry. Assumes nothing.
-use native.Mathlib.Omega.{arith}
 use Rattle.verilog.proofs.TextRows.{no_element, left_element, one_element, wrote_none}
 use Rattle.verilog.proofs.walk.put_element.Goals as goal
 
@@ -8,11 +7,6 @@ returns-then-v-lt-KIND c = let a = c.args in wrote_none a.out.now _ a.at (no_ele
 
 pub returns-then-v-ge-LEFT_OUT : goal.returns-then-v-ge-LEFT_OUT
 returns-then-v-ge-LEFT_OUT c = let a = c.args in wrote_none a.out.now _ a.at (left_element _ a.x c.if-v-ge-LEFT_OUT.true)
-
-pub first_of-requires : goal.first_of-requires
-first_of-requires c =
-    let l = c.requires.0.below in
-    (c.requires.0.outputs c.args.x c.requires.1.0 c.if-v-lt-KIND.false c.if-v-ge-LEFT_OUT.false, omega arith)
 
 pub returns : goal.returns
 returns c =

@@ -1,16 +1,11 @@
 -- The invariant: the lines of the first x terminals or pins are written. Assumes nothing.
 use native.Mathlib.Omega.{arith}
-use mathlib.Core.Path.{◌≡◌, subst}
+use mathlib.Core.Path.{subst}
 use Prim.Native.Nat.{ℕ, ◌<◌}
-use Rattle.lean.specs.Layout.{row_in}
-use Rattle.lines.specs.Wrote.{WroteText}
 use Rattle.verilog.specs.Groups.{count_of, table_at, group_line_at}
-use Rattle.verilog.proofs.TextRows.{row-start, row_step, row_low}
+use Rattle.verilog.proofs.TextRows.{row_step, row_low}
 use Rattle.verilog.proofs.ModuleLaws.{lines-few, count_low}
 use Rattle.verilog.proofs.walk.put_group.Goals as goal
-
-pub loop-x-init : goal.loop-x-init
-loop-x-init c = let a = c.args in (omega arith, row-start (group_line_at a.group) (table_at a.group) a.work.now a.out.now a.from)
 
 pub put_line-at-requires : goal.put_line-at-requires
 put_line-at-requires c =
@@ -18,16 +13,9 @@ put_line-at-requires c =
     let a = c.args in
     let h : l.x < count_of a.group a.end a.pins = subst (λ (n : ℕ). l.x < n) c.count-n.ensures c.loop-x-test.true in
     let m = count_low a.work.now a.end a.pins c.requires.0 a.group in
-    (c.requires.0, (h, omega (arith, row_low (group_line_at a.group) (table_at a.group) a.work.now l.x (lines-few a.group) l.invariant.1)))
+    (c.requires.0, (h, omega (arith, row_low (group_line_at a.group) (table_at a.group) a.work.now l.x (lines-few a.group) l.invariant)))
 
 pub loop-x-preserved : goal.loop-x-preserved
 loop-x-preserved c =
     let a = c.args in
-    (omega arith, row_step (group_line_at a.group) (table_at a.group) a.work.now c.loop-x.x c.loop-x.invariant.1 c.put_line-at.ensures)
-
-pub returns : goal.returns
-returns c =
-    let l = c.loop-x in
-    let a = c.args in
-    let e : l.x ≡ count_of a.group a.end a.pins = omega (arith, c.count-n.ensures) in
-    subst (λ (n : ℕ). WroteText a.out.now a.from (row_in (group_line_at a.group) (table_at a.group) a.work.now n 0) l.out l.at) e l.invariant.1
+    row_step (group_line_at a.group) (table_at a.group) a.work.now c.loop-x.x c.loop-x.invariant c.put_line-at.ensures

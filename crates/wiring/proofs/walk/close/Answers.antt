@@ -6,17 +6,14 @@ use Rattle.wiring.specs.Asks.{closed, closed_in}
 use borrow.Enum.Refused.{opened}
 use Rattle.wiring.proofs.walk.close.Goals as goal
 
-pub close_loop-requires : goal.close_loop-requires
-close_loop-requires c = c.requires.apart (ap is_fixed_point c.in-FixedPoint.is)
-
 pub returns-in-FixedPoint : goal.returns-in-FixedPoint
 unfolding closed closed_in
 returns-in-FixedPoint c =
     let e = ap is_fixed_point c.in-FixedPoint.is in
-    (rw e c.shown_as.ensures, rw e c.close_loop.ensures)
+    (rw e, rw e c.close_loop.ensures)
 
 pub returns-in_default : goal.returns-in_default
 unfolding closed closed_in
 returns-in_default c =
     let e = not_fixed_point c.args.node.rule (opened c.in_default.in_default-own.keys2) in
-    (rw e c.shown_as-in_default.ensures, rw e)
+    (rw e, rw e)

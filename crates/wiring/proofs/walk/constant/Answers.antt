@@ -1,7 +1,7 @@
 -- `wiring::constant` meets its contract: one kind behind the elements, and the part's terminals on the stack. Assumes nothing.
 use Prim.Native.Nat.{◌+◌}
 use native.Mathlib.Omega.{arith}
-use mathlib.Core.Path.{ap₂, ◌∙◌}
+use mathlib.Core.Path.{ap₂}
 use lib.ListN.{length-set}
 use Rattle.parts.proofs.PartInputs.{table-inputs, table-outputs}
 use Rattle.wiring.proofs.LeafLaws.{con_room, con_leaves}
@@ -21,10 +21,6 @@ overflow_add-result c =
     let h = con_room c.requires.0 c.requires.1 in
     let e = table-inputs q.result c.args.node.first q.ensures in
     omega (arith, table-outputs q.result c.args.node.first q.ensures)
-
-pub shape_of-work : goal.shape_of-work
-shape_of-work c =
-    c.terminals.auto.work ∙ simp length-set
 
 pub returns : goal.returns
 returns c =

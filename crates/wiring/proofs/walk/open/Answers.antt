@@ -3,12 +3,6 @@ use Rattle.wiring.proofs.OneLaws.{known_at, room_at, opened-at}
 use native.Mathlib.Omega.{arith}
 use Rattle.wiring.proofs.walk.open.Goals as goal
 
-pub fill-requires : goal.fill-requires
-fill-requires c =
-    let p = c.requires in
-    let h = room_at p.0 p.1 c.bound_by-t.result c.size_of-l.result c.bound_by-t.ensures c.size_of-l.ensures in
-    omega (arith, p.0.asks.holds.size)
-
 pub interface-requires : goal.interface-requires
 interface-requires c =
     let p = c.requires in
@@ -16,14 +10,14 @@ interface-requires c =
     let h = room_at p.0 p.1 c.bound_by-t.result c.size_of-l.result c.bound_by-t.ensures e in
     (known_at p.0 p.1 c.bound_by-t.result c.size_of-l.result c.bound_by-t.ensures e, omega (arith, p.0.asks.holds.size, c.fill.auto.work), omega arith)
 
-pub overflow_mul-next : goal.overflow_mul-next
-overflow_mul-next c =
+pub overflow_mul-st : goal.overflow_mul-st
+overflow_mul-st c =
     let p = c.requires in
     let h = room_at p.0 p.1 c.bound_by-t.result c.size_of-l.result c.bound_by-t.ensures c.size_of-l.ensures in
     omega arith
 
-pub overflow_add-next : goal.overflow_add-next
-overflow_add-next c =
+pub overflow_add-st-3 : goal.overflow_add-st-3
+overflow_add-st-3 c =
     let p = c.requires in
     let h = room_at p.0 p.1 c.bound_by-t.result c.size_of-l.result c.bound_by-t.ensures c.size_of-l.ensures in
     omega arith
@@ -34,26 +28,8 @@ bind-requires c =
     let h = room_at p.0 p.1 c.bound_by-t.result c.size_of-l.result c.bound_by-t.ensures c.size_of-l.ensures in
     (omega (arith, p.0.asks.holds.size, c.interface.auto.work, c.fill.auto.work), h.3, omega arith)
 
-pub overflow_mul-result : goal.overflow_mul-result
-overflow_mul-result c =
-    let p = c.requires in
-    let h = room_at p.0 p.1 c.bound_by-t.result c.size_of-l.result c.bound_by-t.ensures c.size_of-l.ensures in
-    omega arith
-
 pub overflow_add-result : goal.overflow_add-result
 overflow_add-result c =
-    let p = c.requires in
-    let h = room_at p.0 p.1 c.bound_by-t.result c.size_of-l.result c.bound_by-t.ensures c.size_of-l.ensures in
-    omega arith
-
-pub overflow_add-result-2 : goal.overflow_add-result-2
-overflow_add-result-2 c =
-    let p = c.requires in
-    let h = room_at p.0 p.1 c.bound_by-t.result c.size_of-l.result c.bound_by-t.ensures c.size_of-l.ensures in
-    omega arith
-
-pub overflow_add-result-3 : goal.overflow_add-result-3
-overflow_add-result-3 c =
     let p = c.requires in
     let h = room_at p.0 p.1 c.bound_by-t.result c.size_of-l.result c.bound_by-t.ensures c.size_of-l.ensures in
     omega arith

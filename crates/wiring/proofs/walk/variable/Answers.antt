@@ -26,10 +26,6 @@ overflow_cast-ty c =
     let h = var-room p.0 p.1 p.2 (binders_at + 2 * (c.args.st.scope - 1 - c.wide.result)) (ap (λ (x : ℕ). binders_at + slot c.args.st.scope x) e) in
     omega arith
 
-pub overflow_cast-place : goal.overflow_cast-place
-overflow_cast-place c =
-    omega (arith, c.type_inv.work (binders_at + 2 * (c.args.st.scope - 1 - c.wide.result) + 1))
-
 pub show-requires : goal.show-requires
 show-requires c =
     let p = c.requires in

@@ -1,7 +1,5 @@
--- `words::name_key` meets its contract. The invariant: the number so far, with the bytes that are left, gives the name's. The measure is the
--- bytes left. Assumes nothing.
+-- `words::name_key` meets its contract. The invariant: the number so far, with the bytes that are left, gives the name's. Assumes nothing.
 use mathlib.Core.Path.{sym, ◌∙◌}
-use native.Mathlib.Omega.{arith}
 use Rattle.words.proofs.WordLaws.{not_yes, not_no}
 use Rattle.words.proofs.NameKeyLaws.{keying_none, keying-more, keying-stops, keying-past}
 use Rattle.words.proofs.keys.name_key.Goals as goal
@@ -19,12 +17,6 @@ returns-then-not-in_name c =
 
 pub more_key-h-requires : goal.more_key-h-requires
 more_key-h-requires c = c.loop-at.invariant.small
-
-pub overflow_add-at : goal.overflow_add-at
-overflow_add-at c = let h = c.loop-at-test.true in record { fits = omega (arith, c.requires) }
-
-pub loop-at-smaller : goal.loop-at-smaller
-loop-at-smaller c = let h = c.loop-at-test.true in omega arith
 
 pub loop-at-preserved : goal.loop-at-preserved
 loop-at-preserved c =

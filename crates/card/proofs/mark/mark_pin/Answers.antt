@@ -1,9 +1,0 @@
--- By the direction. Assumes nothing.
-use borrow.Author.Tests.{ne_eqb, eq-eqb}
-use Rattle.card.proofs.mark.mark_pin.Goals as goal
-
-pub returns-then-code-eq0 : goal.returns-then-code-eq0
-returns-then-code-eq0 c = rw (eq-eqb _ 0 c.if-code-eq0.true)
-
-pub returns : goal.returns
-returns c = rw (ne_eqb _ 0 c.if-code-eq0.false)
