@@ -30,6 +30,10 @@ pub record Loops (text : List ℕ) (go : ℕ → Step) (fin : Step) (total : Ans
   pub enough : bound ≤ rounds
   pub within : bound ≤ most
 
+-- a loop before a round: it goes on from any end that the round may have
+abbrev pub Turning : List ℕ → (ℕ → Step) → Step → Answer (List Word) → ℕ → ℕ → Answer (List Word) → Type 0
+Turning text go fin total most bound round = (t : End) → Ends text bound round t → Loops text go fin total most t
+
 module _ (text : List ℕ) (go : ℕ → Step) (test : List Word → Bool) (turn : Step) (turns : (r : ℕ) (us : List Word) → go (suc r) us ≡ cond (test us) (turn us >>= go r) (good us))
     (fin : Step) (total : Answer (List Word)) (most : ℕ) where
   module _ (p : ℕ) (l : Loops text go fin total most (Ok p)) where

@@ -9,7 +9,7 @@ use lib.ListN.{length}
 use borrow.Author.Tests.{eq-eqb, ne_eqb}
 use Rattle.calculus.specs.Answer.{Answer, good, ◌>>=◌, refuse, need}
 use Rattle.notation_calculus.specs.Words.{sign_code, arrow, linear, times, endRound, square, endSquare, curly, endCurly, Token, sign, part, number, name, Word}
-use Rattle.notation_calculus.specs.Grammar.{peek, behind, place, is, expect}
+use Rattle.notation_calculus.specs.Grammar.{peek, behind, place, is}
 use Rattle.words.specs.Tables.{token_code, token_value}
 use Rattle.words.specs.Next.{Said}
 use Rattle.words.specs.Lexed.{from, Onward, Stands}

@@ -32,13 +32,14 @@ fn tuple_end(text: &[u8], at: usize, more: usize) -> Result<usize, Refusal>
     requires { Lexed text.now at }
     ensures { EndsIn text.now at (tuple_end (term_step more)) result }
 {
-    let mut t = term_end(text, at, more)?;
+    let mut next = at;
     loop {
+        let t = term_end(text, next, more)?;
         let c = words::word_here(text, t);
         if c.kind != steps::COMMA {
             return steps::expect_word(c, END_ROUND);
         }
-        t = term_end(text, c.end, more)?;
+        next = c.end;
     }
 }
 
@@ -80,13 +81,20 @@ fn spine_end(
     requires { (Lexed text.now at) × (WordThere text.now at kind start end) }
     ensures { Ends text.now (length (from text.now at)) (spine_end (term_step more) (type_step more false) (from text.now at)) result }
 {
-    let mut t = atom_end(text, at, more, kind, start, end)?;
+    let mut next = at;
+    let mut code = kind;
+    let mut place = start;
+    let mut behind = end;
     loop {
+        let t = atom_end(text, next, more, code, place, behind)?;
         let w = words::word_at(text, t);
         if !heads::word_begins(text, t, w) {
             return Ok(t);
         }
-        t = atom_end(text, t, more, w.kind, w.start, w.end)?;
+        next = t;
+        code = w.kind;
+        place = w.start;
+        behind = w.end;
     }
 }
 

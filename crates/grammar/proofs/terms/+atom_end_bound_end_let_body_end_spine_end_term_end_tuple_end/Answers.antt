@@ -1,6 +1,6 @@
 -- Terms meet their contracts: one proof of the cycle of calls. The measure is the levels that are left, and in a level the order of the calls.
 -- Assumes nothing.
-use Prim.Native.Nat.{◌+◌, ◌-◌}
+use Prim.Native.Nat.{◌-◌}
 use mathlib.Core.Path.{refl, sym, ap, ◌∙◌}
 use mathlib.Core.Bool.{false}
 use mathlib.Core.List.{List}
@@ -69,32 +69,37 @@ let_body_end-term_end-requires-2 t c = (omega (arith, c.decreases), c.in_ok-d.en
 pub let_body_end-returns : goal.let_body_end-returns
 let_body_end-returns t c = along_last c.args.text.now (length (from c.args.text.now c.args.at)) (let_body_end (term_step c.args.more) (from c.args.text.now c.args.at)) (term_step c.args.more) c.in_ok-d.d c.term_end-2.result (along_expect c.args.text.now (length (from c.args.text.now c.args.at)) (let_body_end (term_step c.args.more) (from c.args.text.now c.args.at)) within (term_step c.args.more) c.in_ok-v.v (Ok c.in_ok-d.d) (along_next c.args.text.now (length (from c.args.text.now c.args.at)) (let_body_end (term_step c.args.more) (from c.args.text.now c.args.at)) (term_step c.args.more) (λ vs. expect within vs >>= λ xs. (term_step c.args.more) xs) c.in_ok-c.c (Ok c.in_ok-v.v) (along_sign c.args.text.now c.args.at equals (let_body_end (term_step c.args.more) (from c.args.text.now c.args.at)) (λ us. (term_step c.args.more) us >>= λ vs. expect within vs >>= λ xs. (term_step c.args.more) xs) (Ok c.in_ok-c.c) refl c.in_ok-c.ensures) c.in_ok-v.ensures) c.in_ok-d.ensures) c.term_end-2.ensures
 
-pub spine_end-atom_end-requires : goal.spine_end-atom_end-requires
-spine_end-atom_end-requires t c = (omega (arith, c.decreases), c.requires)
+pub spine_end-loop-t-init : goal.spine_end-loop-t-init
+spine_end-loop-t-init t c = (c.requires.0, (c.requires.1, λ r d. spine_first c.args.text.now c.args.at (term_step c.args.more) (type_step c.args.more false) r d))
 
-pub spine_end-loop-w-init : goal.spine_end-loop-w-init
-spine_end-loop-w-init t c = spine_first c.args.text.now c.args.at (term_step c.args.more) (type_step c.args.more false) (Ok c.in_ok-t.t) c.in_ok-t.ensures
+pub spine_end-atom_end-requires : goal.spine_end-atom_end-requires
+spine_end-atom_end-requires t c = (omega (arith, c.decreases), (c.loop-t.invariant.0, c.loop-t.invariant.1.0))
 
 pub spine_end-word_at-w-requires : goal.spine_end-word_at-w-requires
-spine_end-word_at-w-requires t c = (c.loop-w.invariant.ends).lexed
+spine_end-word_at-w-requires t c = c.in_ok-t.ensures.lexed
 
 pub spine_end-word_begins-requires : goal.spine_end-word_begins-requires
 spine_end-word_begins-requires t c = c.word_at-w.ensures
 
 pub spine_end-returns-then-not-word_begins : goal.spine_end-returns-then-not-word_begins
-spine_end-returns-then-not-word_begins t c = loop_done c.args.text.now (atoms_end (term_step c.args.more) (type_step c.args.more false)) (λ us. good us) _ _ c.loop-w.t c.loop-w.invariant (loop-stop c.args.text.now (atoms_end (term_step c.args.more) (type_step c.args.more false)) (λ us. begins_atom us) (λ us. atom_end (term_step c.args.more) (type_step c.args.more false) us) (λ r us. refl) (λ us. good us) (spine_end (term_step c.args.more) (type_step c.args.more false) (from c.args.text.now c.args.at)) (length (from c.args.text.now c.args.at)) c.loop-w.t c.loop-w.invariant (sym c.word_begins.ensures ∙ not_yes _ c.if-not-word_begins.true-raw))
+spine_end-returns-then-not-word_begins t c = let l = c.loop-t.invariant.1.1 (Ok c.in_ok-t.t) c.in_ok-t.ensures in
+    loop_done c.args.text.now (atoms_end (term_step c.args.more) (type_step c.args.more false)) (λ us. good us) _ _ c.in_ok-t.t l (loop-stop c.args.text.now (atoms_end (term_step c.args.more) (type_step c.args.more false)) (λ us. begins_atom us) (λ us. atom_end (term_step c.args.more) (type_step c.args.more false) us) (λ r us. refl) (λ us. good us) (spine_end (term_step c.args.more) (type_step c.args.more false) (from c.args.text.now c.args.at)) (length (from c.args.text.now c.args.at)) c.in_ok-t.t l (sym c.word_begins.ensures ∙ not_yes _ c.if-not-word_begins.true-raw))
 
-pub spine_end-atom_end-requires-in-loop-w : goal.spine_end-atom_end-requires-in-loop-w
-spine_end-atom_end-requires-in-loop-w t c = (omega (arith, c.decreases), ((c.loop-w.invariant.ends).lexed, record { value = c.word_at-w.result.value; stands = c.word_at-w.ensures }))
+pub spine_end-loop-t-smaller : goal.spine_end-loop-t-smaller
+spine_end-loop-t-smaller t c = omega (arith, c.in_ok-t.ensures.fewer)
 
-pub spine_end-loop-w-smaller : goal.spine_end-loop-w-smaller
-spine_end-loop-w-smaller t c = omega (arith, c.in_ok-t-2.ensures.fewer)
+pub spine_end-loop-t-preserved : goal.spine_end-loop-t-preserved
+spine_end-loop-t-preserved t c = (
+  c.in_ok-t.ensures.lexed,
+  (
+    record { value = c.word_at-w.result.value; stands = c.word_at-w.ensures },
+    λ r d.
+        loop-turn c.args.text.now (atoms_end (term_step c.args.more) (type_step c.args.more false)) (λ us. begins_atom us) (λ us. atom_end (term_step c.args.more) (type_step c.args.more false) us) (λ r us. refl) (λ us. good us) (spine_end (term_step c.args.more) (type_step c.args.more false) (from c.args.text.now c.args.at)) (length (from c.args.text.now c.args.at)) c.in_ok-t.t (c.loop-t.invariant.1.1 (Ok c.in_ok-t.t) c.in_ok-t.ensures) (sym c.word_begins.ensures ∙ not_no _ c.if-not-word_begins.false-raw) _ r d (omega arith),
+  ),
+)
 
-pub spine_end-loop-w-preserved : goal.spine_end-loop-w-preserved
-spine_end-loop-w-preserved t c = loop-turn c.args.text.now (atoms_end (term_step c.args.more) (type_step c.args.more false)) (λ us. begins_atom us) (λ us. atom_end (term_step c.args.more) (type_step c.args.more false) us) (λ r us. refl) (λ us. good us) (spine_end (term_step c.args.more) (type_step c.args.more false) (from c.args.text.now c.args.at)) (length (from c.args.text.now c.args.at)) c.loop-w.t c.loop-w.invariant (sym c.word_begins.ensures ∙ not_no _ c.if-not-word_begins.false-raw) _ (Ok c.in_ok-t-2.t) c.in_ok-t-2.ensures (omega arith)
-
-pub spine_end-returns-in_err-t-2 : goal.spine_end-returns-in_err-t-2
-spine_end-returns-in_err-t-2 t c = ends_passed c.args.text.now _ _ c.from_residual-in_err-t-2.result _ c.from_residual-in_err-t-2.ensures.1 (loop_bad _ _ _ _ _ c.in_err-t-2.field-0.0 (loop-turn c.args.text.now (atoms_end (term_step c.args.more) (type_step c.args.more false)) (λ us. begins_atom us) (λ us. atom_end (term_step c.args.more) (type_step c.args.more false) us) (λ r us. refl) (λ us. good us) (spine_end (term_step c.args.more) (type_step c.args.more false) (from c.args.text.now c.args.at)) (length (from c.args.text.now c.args.at)) c.loop-w.t c.loop-w.invariant (sym c.word_begins.ensures ∙ not_no _ c.if-not-word_begins.false-raw) 0 (Err c.in_err-t-2.field-0.0) c.in_err-t-2.ensures (omega arith)))
+pub spine_end-returns-in_err-t : goal.spine_end-returns-in_err-t
+spine_end-returns-in_err-t t c = ends_passed c.args.text.now _ _ c.from_residual.result _ c.from_residual.ensures.1 (loop_bad _ _ _ _ _ c.in_err-t.field-0.0 (c.loop-t.invariant.1.1 (Err c.in_err-t.field-0.0) c.in_err-t.ensures))
 
 pub term_end-word_at-w-requires : goal.term_end-word_at-w-requires
 term_end-word_at-w-requires t c = c.requires
@@ -147,32 +152,34 @@ term_end-spine_end-requires t c = (omega (arith, c.decreases, c.if-more-eq0.fals
 pub term_end-returns : goal.term_end-returns
 term_end-returns t c = term-spine c.args.text.now c.args.at c.args.more (said_word c.word_at-w.result) c.word_at-w.ensures c.if-more-eq0.false c.if-w-eq-FUN.false c.if-w-eq-FIX.false c.if-w-eq-LET.false c.spine_end.result c.spine_end.ensures
 
-pub tuple_end-term_end-requires : goal.tuple_end-term_end-requires
-tuple_end-term_end-requires t c = (omega (arith, c.decreases), c.requires)
+pub tuple_end-loop-t-init : goal.tuple_end-loop-t-init
+tuple_end-loop-t-init t c = (c.requires, λ n h r d. tuple-first c.args.text.now c.args.at (term_step c.args.more) (type_step c.args.more false) r n h d)
 
-pub tuple_end-loop-c-init : goal.tuple_end-loop-c-init
-tuple_end-loop-c-init t c = λ n h. tuple-first c.args.text.now c.args.at (term_step c.args.more) (type_step c.args.more false) (Ok c.in_ok-t.t) n h c.in_ok-t.ensures
+pub tuple_end-term_end-requires : goal.tuple_end-term_end-requires
+tuple_end-term_end-requires t c = (omega (arith, c.decreases), c.loop-t.invariant.0)
 
 pub tuple_end-word_here-c-requires : goal.tuple_end-word_here-c-requires
-tuple_end-word_here-c-requires t c = ((c.loop-c.invariant (length (from c.args.text.now c.args.at) + 1) (omega arith)).ends).lexed
+tuple_end-word_here-c-requires t c = c.in_ok-t.ensures.lexed
 
 pub tuple_end-expect_word-requires : goal.tuple_end-expect_word-requires
 tuple_end-expect_word-requires t c = tt
 
 pub tuple_end-returns-then-c-ne-COMMA : goal.tuple_end-returns-then-c-ne-COMMA
-tuple_end-returns-then-c-ne-COMMA t c = λ n h. ends_as c.args.text.now _ _ _ _ c.expect_word.result (omega (arith, ((c.loop-c.invariant n h).ends).fewer, (c.loop-c.invariant n h).within)) (loop-stop c.args.text.now (trees_end (term_step c.args.more)) (λ us. isSign comma us) (λ us. term_step c.args.more (behind us)) (λ r us. refl) (λ us. expect endRound us) (tuple_end (term_step c.args.more) n (from c.args.text.now c.args.at)) (length (from c.args.text.now c.args.at)) c.loop-c.t (c.loop-c.invariant n h) (is_no c.args.text.now c.loop-c.t (said_word c.word_here-c.result) c.word_here-c.ensures comma c.if-c-ne-COMMA.true) ∙ expect-code endRound (from c.args.text.now c.loop-c.t)) (c.expect_word.ensures c.args.text.now c.loop-c.t c.word_here-c.ensures (omega arith))
+tuple_end-returns-then-c-ne-COMMA t c = λ n h. let l = c.loop-t.invariant.1 n h (Ok c.in_ok-t.t) c.in_ok-t.ensures in
+    ends_as c.args.text.now _ _ _ _ c.expect_word.result (omega (arith, l.ends.fewer, l.within)) (loop-stop c.args.text.now (trees_end (term_step c.args.more)) (λ us. isSign comma us) (λ us. term_step c.args.more (behind us)) (λ r us. refl) (λ us. expect endRound us) (tuple_end (term_step c.args.more) n (from c.args.text.now c.args.at)) (length (from c.args.text.now c.args.at)) c.in_ok-t.t l (is_no c.args.text.now c.in_ok-t.t (said_word c.word_here-c.result) c.word_here-c.ensures comma c.if-c-ne-COMMA.true) ∙ expect-code endRound (from c.args.text.now c.in_ok-t.t)) (c.expect_word.ensures c.args.text.now c.in_ok-t.t c.word_here-c.ensures (omega arith))
 
-pub tuple_end-term_end-requires-in-loop-c : goal.tuple_end-term_end-requires-in-loop-c
-tuple_end-term_end-requires-in-loop-c t c = (omega (arith, c.decreases), (c.word_here-c.ensures.onward (λ z. omega (arith, c.if-c-ne-COMMA.false))).lexed)
+pub tuple_end-loop-t-smaller : goal.tuple_end-loop-t-smaller
+tuple_end-loop-t-smaller t c = omega (arith, (c.word_here-c.ensures.onward (λ z. omega (arith, c.if-c-ne-COMMA.false))).fewer, c.in_ok-t.ensures.fewer)
 
-pub tuple_end-loop-c-smaller : goal.tuple_end-loop-c-smaller
-tuple_end-loop-c-smaller t c = omega (arith, (c.word_here-c.ensures.onward (λ z. omega (arith, c.if-c-ne-COMMA.false))).fewer, c.in_ok-t-2.ensures.fewer)
+pub tuple_end-loop-t-preserved : goal.tuple_end-loop-t-preserved
+tuple_end-loop-t-preserved t c = let o = c.word_here-c.ensures.onward (λ z. omega (arith, c.if-c-ne-COMMA.false)) in (
+  o.lexed,
+  λ n h r d.
+      loop-turn c.args.text.now (trees_end (term_step c.args.more)) (λ us. isSign comma us) (λ us. term_step c.args.more (behind us)) (λ r us. refl) (λ us. expect endRound us) (tuple_end (term_step c.args.more) n (from c.args.text.now c.args.at)) (length (from c.args.text.now c.args.at)) c.in_ok-t.t (c.loop-t.invariant.1 n h (Ok c.in_ok-t.t) c.in_ok-t.ensures) (is_yes c.args.text.now c.in_ok-t.t (said_word c.word_here-c.result) c.word_here-c.ensures comma c.if-c-ne-COMMA.false) _ r (ends_as c.args.text.now _ (length (from c.args.text.now c.word_here-c.result.end)) _ _ r (omega arith) (ap (λ (us : List Word). term_step c.args.more us) o.rest) d) (omega (arith, o.fewer)),
+)
 
-pub tuple_end-loop-c-preserved : goal.tuple_end-loop-c-preserved
-tuple_end-loop-c-preserved t c = λ n h. loop-turn c.args.text.now (trees_end (term_step c.args.more)) (λ us. isSign comma us) (λ us. term_step c.args.more (behind us)) (λ r us. refl) (λ us. expect endRound us) (tuple_end (term_step c.args.more) n (from c.args.text.now c.args.at)) (length (from c.args.text.now c.args.at)) c.loop-c.t (c.loop-c.invariant n h) (is_yes c.args.text.now c.loop-c.t (said_word c.word_here-c.result) c.word_here-c.ensures comma c.if-c-ne-COMMA.false) _ (Ok c.in_ok-t-2.t) (ends_as c.args.text.now _ (length (from c.args.text.now c.word_here-c.result.end)) _ _ (Ok c.in_ok-t-2.t) (omega arith) (ap (λ (us : List Word). term_step c.args.more us) (c.word_here-c.ensures.onward (λ z. omega (arith, c.if-c-ne-COMMA.false))).rest) c.in_ok-t-2.ensures) (omega (arith, (c.word_here-c.ensures.onward (λ z. omega (arith, c.if-c-ne-COMMA.false))).fewer))
-
-pub tuple_end-returns-in_err-t-2 : goal.tuple_end-returns-in_err-t-2
-tuple_end-returns-in_err-t-2 t c = λ n h. ends_passed c.args.text.now _ _ c.from_residual-in_err-t-2.result _ c.from_residual-in_err-t-2.ensures.1 (loop_bad _ _ _ _ _ c.in_err-t-2.field-0.0 (loop-turn c.args.text.now (trees_end (term_step c.args.more)) (λ us. isSign comma us) (λ us. term_step c.args.more (behind us)) (λ r us. refl) (λ us. expect endRound us) (tuple_end (term_step c.args.more) n (from c.args.text.now c.args.at)) (length (from c.args.text.now c.args.at)) c.loop-c.t (c.loop-c.invariant n h) (is_yes c.args.text.now c.loop-c.t (said_word c.word_here-c.result) c.word_here-c.ensures comma c.if-c-ne-COMMA.false) 0 (Err c.in_err-t-2.field-0.0) (ap (λ (us : List Word). term_step c.args.more us) (c.word_here-c.ensures.onward (λ z. omega (arith, c.if-c-ne-COMMA.false))).rest ∙ c.in_err-t-2.ensures) (omega arith)))
+pub tuple_end-returns-in_err-t : goal.tuple_end-returns-in_err-t
+tuple_end-returns-in_err-t t c = λ n h. ends_passed c.args.text.now _ _ c.from_residual.result _ c.from_residual.ensures.1 (loop_bad _ _ _ _ _ c.in_err-t.field-0.0 (c.loop-t.invariant.1 n h (Err c.in_err-t.field-0.0) c.in_err-t.ensures))
 
 pub term_end-returns-in_err-x : goal.term_end-returns-in_err-x
 term_end-returns-in_err-x t c = ends_passed c.args.text.now _ _ c.from_residual.result _ c.from_residual.ensures.1 (along_stop c.args.text.now (length (from c.args.text.now c.args.at)) (term_step c.args.more (from c.args.text.now c.args.at)) (λ us. bound_end (term_step (c.args.more - 1)) (type_step (c.args.more - 1) false) us) c.in_err-x.field-0.0 (term-fun c.args.text.now c.args.at c.args.more (said_word c.word_at-w.result) c.word_at-w.ensures c.if-more-eq0.false c.if-w-eq-FUN.true (Err c.in_err-x.field-0.0) c.in_err-x.ensures))

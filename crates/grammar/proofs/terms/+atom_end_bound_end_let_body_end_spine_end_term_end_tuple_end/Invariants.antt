@@ -6,12 +6,11 @@ use lib.ListN.{length}
 use Rattle.calculus.specs.Answer.{good}
 use Rattle.notation_calculus.specs.Words.{endRound}
 use Rattle.notation_calculus.specs.Grammar.{expect}
-use Rattle.words.specs.Lexed.{from}
-use Rattle.grammar.specs.Ends.{type_step, term_step}
-use Rattle.grammar.specs.Skips.{trees_end, tuple_end, atoms_end, spine_end}
-use Rattle.grammar.proofs.LoopLaws.{Loops}
+use Rattle.words.specs.Lexed.{from, Lexed}
+use Rattle.grammar.specs.Ends.{type_step, term_step, WordThere}
+use Rattle.grammar.specs.Skips.{trees_end, tuple_end, atom_end, atoms_end, spine_end}
+use Rattle.grammar.proofs.LoopLaws.{Turning}
 use Rattle.grammar.proofs.terms.+atom_end_bound_end_let_body_end_spine_end_term_end_tuple_end.Given as goal
-use Rattle.std.proofs.Common.{Ok}
 
 abbrev pub decreases-atom_end : goal.decreases-atom_end
 decreases-atom_end l = 8 * l.more + 2
@@ -31,14 +30,14 @@ decreases-term_end l = 8 * l.more
 abbrev pub decreases-tuple_end : goal.decreases-tuple_end
 decreases-tuple_end l = 8 * l.more + 1
 
-abbrev pub invariant-spine_end-loop-w : goal.invariant-spine_end-loop-w
-invariant-spine_end-loop-w l = Loops l.text (atoms_end (term_step l.more) (type_step l.more false)) (λ us. good us) (spine_end (term_step l.more) (type_step l.more false) (from l.text l.at)) (length (from l.text l.at)) (Ok l.t)
+abbrev pub invariant-spine_end-loop-t : goal.invariant-spine_end-loop-t
+invariant-spine_end-loop-t l = Lexed l.text l.next × (WordThere l.text l.next l.code l.place l.behind × Turning l.text (atoms_end (term_step l.more) (type_step l.more false)) (λ us. good us) (spine_end (term_step l.more) (type_step l.more false) (from l.text l.at)) (length (from l.text l.at)) (length (from l.text l.next)) (atom_end (term_step l.more) (type_step l.more false) (from l.text l.next)))
 
-abbrev pub decreases-spine_end-loop-w : goal.decreases-spine_end-loop-w
-decreases-spine_end-loop-w l = length (from l.text l.t)
+abbrev pub decreases-spine_end-loop-t : goal.decreases-spine_end-loop-t
+decreases-spine_end-loop-t l = length (from l.text l.next)
 
-abbrev pub invariant-tuple_end-loop-c : goal.invariant-tuple_end-loop-c
-invariant-tuple_end-loop-c l = (n : ℕ) → length (from l.text l.at) < n → Loops l.text (trees_end (term_step l.more)) (λ us. expect endRound us) (tuple_end (term_step l.more) n (from l.text l.at)) (length (from l.text l.at)) (Ok l.t)
+abbrev pub invariant-tuple_end-loop-t : goal.invariant-tuple_end-loop-t
+invariant-tuple_end-loop-t l = Lexed l.text l.next × ((n : ℕ) → length (from l.text l.at) < n → Turning l.text (trees_end (term_step l.more)) (λ us. expect endRound us) (tuple_end (term_step l.more) n (from l.text l.at)) (length (from l.text l.at)) (length (from l.text l.next)) (term_step l.more (from l.text l.next)))
 
-abbrev pub decreases-tuple_end-loop-c : goal.decreases-tuple_end-loop-c
-decreases-tuple_end-loop-c l = length (from l.text l.t)
+abbrev pub decreases-tuple_end-loop-t : goal.decreases-tuple_end-loop-t
+decreases-tuple_end-loop-t l = length (from l.text l.next)
