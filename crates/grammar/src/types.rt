@@ -22,7 +22,8 @@ const ROUND: u8 = 11;
 
 const END_ROUND: u8 = 12;
 
-// [ type, type ], or nothing.
+// [ type, type ], or nothing. Inlined: a call of its own would take stack at each level of type arguments.
+#[inline(always)]
 #[cycle(arguments_end_arrow_end_atom_end_inside_end_product_end_type_end_use_end)]
 pub fn arguments_end(text: &[u8], at: usize, more: usize) -> Result<usize, Refusal>
     requires { Lexed text.now at }
@@ -32,13 +33,14 @@ pub fn arguments_end(text: &[u8], at: usize, more: usize) -> Result<usize, Refus
     if w.kind != steps::SQUARE {
         return Ok(at);
     }
-    let mut t = type_end(text, w.end, more, false)?;
+    let mut next = w.end;
     loop {
+        let t = type_end(text, next, more, false)?;
         let c = words::word_at(text, t);
         if c.kind != steps::COMMA {
             return steps::expect_word(c, steps::END_SQUARE);
         }
-        t = type_end(text, c.end, more, false)?;
+        next = c.end;
     }
 }
 

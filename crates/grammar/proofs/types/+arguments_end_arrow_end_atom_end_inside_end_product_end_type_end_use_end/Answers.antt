@@ -24,32 +24,35 @@ arguments_end-word_at-w-requires t c = c.requires
 pub arguments_end-returns-then-w-ne-SQUARE : goal.arguments_end-returns-then-w-ne-SQUARE
 arguments_end-returns-then-w-ne-SQUARE t c = ends_as c.args.text.now _ _ _ _ (Ok c.args.at) (omega arith) (group_none _ square endSquare (type_step c.args.more false) (is_no c.args.text.now c.args.at (said_word c.word_at-w.result) c.word_at-w.ensures square c.if-w-ne-SQUARE.true)) (ends-here c.args.text.now c.args.at c.requires)
 
-pub arguments_end-type_end-requires : goal.arguments_end-type_end-requires
-arguments_end-type_end-requires t c = (omega (arith, c.decreases), (c.word_at-w.ensures.onward (λ z. omega (arith, c.if-w-ne-SQUARE.false))).lexed)
+pub arguments_end-loop-t-init : goal.arguments_end-loop-t-init
+arguments_end-loop-t-init t c =
+    ((c.word_at-w.ensures.onward (λ z. omega (arith, c.if-w-ne-SQUARE.false))).lexed, λ r d. group_first c.args.text.now c.args.at (said_word c.word_at-w.result) c.word_at-w.ensures square endSquare (type_step c.args.more false) c.if-w-ne-SQUARE.false (λ z. omega (arith, c.if-w-ne-SQUARE.false)) r d)
 
-pub arguments_end-loop-c-init : goal.arguments_end-loop-c-init
-arguments_end-loop-c-init t c = group_first c.args.text.now c.args.at (said_word c.word_at-w.result) c.word_at-w.ensures square endSquare (type_step c.args.more false) c.if-w-ne-SQUARE.false (λ z. omega (arith, c.if-w-ne-SQUARE.false)) (Ok c.in_ok-t.t) c.in_ok-t.ensures
+pub arguments_end-type_end-requires : goal.arguments_end-type_end-requires
+arguments_end-type_end-requires t c = (omega (arith, c.decreases), c.loop-t.invariant.0)
 
 pub arguments_end-word_at-c-requires : goal.arguments_end-word_at-c-requires
-arguments_end-word_at-c-requires t c = (c.loop-c.invariant.ends).lexed
+arguments_end-word_at-c-requires t c = c.in_ok-t.ensures.lexed
 
 pub arguments_end-expect_word-requires : goal.arguments_end-expect_word-requires
 arguments_end-expect_word-requires t c = tt
 
 pub arguments_end-returns-then-c-ne-COMMA : goal.arguments_end-returns-then-c-ne-COMMA
-arguments_end-returns-then-c-ne-COMMA t c = ends_as c.args.text.now _ _ _ _ c.expect_word.result (omega (arith, (c.loop-c.invariant.ends).fewer, c.loop-c.invariant.within)) (loop-stop c.args.text.now (list_more (type_step c.args.more false)) (λ us. isSign comma us) (λ us. type_step c.args.more false (behind us)) (λ r us. refl) (λ us. expect endSquare us) (group_end square endSquare (type_step c.args.more false) (from c.args.text.now c.args.at)) (length (from c.args.text.now c.args.at)) c.loop-c.t c.loop-c.invariant (is_no c.args.text.now c.loop-c.t (said_word c.word_at-c.result) c.word_at-c.ensures comma c.if-c-ne-COMMA.true) ∙ expect-code endSquare (from c.args.text.now c.loop-c.t)) (c.expect_word.ensures c.args.text.now c.loop-c.t c.word_at-c.ensures (omega arith))
+arguments_end-returns-then-c-ne-COMMA t c = let l = c.loop-t.invariant.1 (Ok c.in_ok-t.t) c.in_ok-t.ensures in
+    ends_as c.args.text.now _ _ _ _ c.expect_word.result (omega (arith, l.ends.fewer, l.within)) (loop-stop c.args.text.now (list_more (type_step c.args.more false)) (λ us. isSign comma us) (λ us. type_step c.args.more false (behind us)) (λ r us. refl) (λ us. expect endSquare us) (group_end square endSquare (type_step c.args.more false) (from c.args.text.now c.args.at)) (length (from c.args.text.now c.args.at)) c.in_ok-t.t l (is_no c.args.text.now c.in_ok-t.t (said_word c.word_at-c.result) c.word_at-c.ensures comma c.if-c-ne-COMMA.true) ∙ expect-code endSquare (from c.args.text.now c.in_ok-t.t)) (c.expect_word.ensures c.args.text.now c.in_ok-t.t c.word_at-c.ensures (omega arith))
 
-pub arguments_end-type_end-requires-in-loop-c : goal.arguments_end-type_end-requires-in-loop-c
-arguments_end-type_end-requires-in-loop-c t c = (omega (arith, c.decreases), (c.word_at-c.ensures.onward (λ z. omega (arith, c.if-c-ne-COMMA.false))).lexed)
+pub arguments_end-loop-t-smaller : goal.arguments_end-loop-t-smaller
+arguments_end-loop-t-smaller t c = omega (arith, (c.word_at-c.ensures.onward (λ z. omega (arith, c.if-c-ne-COMMA.false))).fewer, c.in_ok-t.ensures.fewer)
 
-pub arguments_end-loop-c-smaller : goal.arguments_end-loop-c-smaller
-arguments_end-loop-c-smaller t c = omega (arith, (c.word_at-c.ensures.onward (λ z. omega (arith, c.if-c-ne-COMMA.false))).fewer, c.in_ok-t-2.ensures.fewer)
+pub arguments_end-loop-t-preserved : goal.arguments_end-loop-t-preserved
+arguments_end-loop-t-preserved t c = let o = c.word_at-c.ensures.onward (λ z. omega (arith, c.if-c-ne-COMMA.false)) in (
+  o.lexed,
+  λ r d.
+      loop-turn c.args.text.now (list_more (type_step c.args.more false)) (λ us. isSign comma us) (λ us. type_step c.args.more false (behind us)) (λ r us. refl) (λ us. expect endSquare us) (group_end square endSquare (type_step c.args.more false) (from c.args.text.now c.args.at)) (length (from c.args.text.now c.args.at)) c.in_ok-t.t (c.loop-t.invariant.1 (Ok c.in_ok-t.t) c.in_ok-t.ensures) (is_yes c.args.text.now c.in_ok-t.t (said_word c.word_at-c.result) c.word_at-c.ensures comma c.if-c-ne-COMMA.false) _ r (ends_as c.args.text.now _ (length (from c.args.text.now c.word_at-c.result.end)) _ _ r (omega arith) (ap (λ (us : List Word). type_step c.args.more false us) o.rest) d) (omega (arith, o.fewer)),
+)
 
-pub arguments_end-loop-c-preserved : goal.arguments_end-loop-c-preserved
-arguments_end-loop-c-preserved t c = loop-turn c.args.text.now (list_more (type_step c.args.more false)) (λ us. isSign comma us) (λ us. type_step c.args.more false (behind us)) (λ r us. refl) (λ us. expect endSquare us) (group_end square endSquare (type_step c.args.more false) (from c.args.text.now c.args.at)) (length (from c.args.text.now c.args.at)) c.loop-c.t c.loop-c.invariant (is_yes c.args.text.now c.loop-c.t (said_word c.word_at-c.result) c.word_at-c.ensures comma c.if-c-ne-COMMA.false) _ (Ok c.in_ok-t-2.t) (ends_as c.args.text.now _ (length (from c.args.text.now c.word_at-c.result.end)) _ _ (Ok c.in_ok-t-2.t) (omega arith) (ap (λ (us : List Word). type_step c.args.more false us) (c.word_at-c.ensures.onward (λ z. omega (arith, c.if-c-ne-COMMA.false))).rest) c.in_ok-t-2.ensures) (omega (arith, (c.word_at-c.ensures.onward (λ z. omega (arith, c.if-c-ne-COMMA.false))).fewer))
-
-pub arguments_end-returns-in_err-t-2 : goal.arguments_end-returns-in_err-t-2
-arguments_end-returns-in_err-t-2 t c = ends_passed c.args.text.now _ _ c.from_residual-in_err-t-2.result _ c.from_residual-in_err-t-2.ensures.1 (loop_bad _ _ _ _ _ c.in_err-t-2.field-0.0 (loop-turn c.args.text.now (list_more (type_step c.args.more false)) (λ us. isSign comma us) (λ us. type_step c.args.more false (behind us)) (λ r us. refl) (λ us. expect endSquare us) (group_end square endSquare (type_step c.args.more false) (from c.args.text.now c.args.at)) (length (from c.args.text.now c.args.at)) c.loop-c.t c.loop-c.invariant (is_yes c.args.text.now c.loop-c.t (said_word c.word_at-c.result) c.word_at-c.ensures comma c.if-c-ne-COMMA.false) 0 (Err c.in_err-t-2.field-0.0) (ap (λ (us : List Word). type_step c.args.more false us) (c.word_at-c.ensures.onward (λ z. omega (arith, c.if-c-ne-COMMA.false))).rest ∙ c.in_err-t-2.ensures) (omega arith)))
+pub arguments_end-returns-in_err-t : goal.arguments_end-returns-in_err-t
+arguments_end-returns-in_err-t t c = ends_passed c.args.text.now _ _ c.from_residual.result _ c.from_residual.ensures.1 (loop_bad _ _ _ _ _ c.in_err-t.field-0.0 (c.loop-t.invariant.1 (Err c.in_err-t.field-0.0) c.in_err-t.ensures))
 
 pub atom_end-word_at-w-requires : goal.atom_end-word_at-w-requires
 atom_end-word_at-w-requires t c = c.requires
