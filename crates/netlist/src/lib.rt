@@ -191,6 +191,9 @@ pub fn full_length(work: &[u16], elements: usize, wires: usize, pins: usize, pla
     sum + node_size(elements, plain)
 }
 
+// The output, the offset, the terminal and the node go one by one through `put_plain`, `put_node`, `put_element` and the functions of one record: an
+// element's kind, terminal and node are known only where it is written, so a struct of them would be made for a single call.
+//
 // The plain record of an element of a kind that starts at terminal n.
 fn put_plain(out: &mut [u8], at: usize, kind: u16, n: u16) -> usize
     requires { (kind < 8) × (at + element_size kind ≤ length out.old) }
