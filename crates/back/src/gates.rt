@@ -113,10 +113,7 @@ fn open_at(net: &[u8], wires: usize, i: usize) -> usize
     requires { WiresHere net.now wires }
     ensures { result ≡ undrivens (sources (net_here net.now) 1 i 0) }
 {
-    match driver(net, wires, i) {
-        Some(_) => 0,
-        None => 1,
-    }
+    usize::from(driver(net, wires, i).is_none())
 }
 
 // The undriven ones of at most two inputs.

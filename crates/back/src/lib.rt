@@ -25,7 +25,12 @@ fn fitted(net: &[u8], out: &mut [u8], parts: Parts, counts: Counts) -> Result<us
         return Err(Reason::ShortOutput.at(n));
     }
     let undriven = counts.undriven;
-    write::sheet(net, out, Layout { parts, undriven });
+    let layout = Layout {
+        net,
+        parts,
+        undriven,
+    };
+    write::sheet(out, layout);
     Ok(n)
 }
 

@@ -11,9 +11,10 @@ ghost use Rattle.back.specs.Room.{SourceRoom, SourcesRoom, PartRoom, PartsRoom, 
 use crate::gates;
 use crate::gates::Parts;
 
-// What is known of the netlist: its parts, and how many undriven inputs it has.
+// A netlist, and what is known of it: its parts, and how many undriven inputs it has.
 #[derive(Clone, Copy, Debug, PartialEq, Eq)]
-pub struct Layout {
+pub struct Layout<'a> {
+    pub net: &'a [u8],
     pub parts: Parts,
     pub undriven: usize,
 }
@@ -145,31 +146,23 @@ fn output_binder(parts: usize, r: usize) -> u8
 }
 
 // The variable that drives an input; the undriven inputs then.
-fn put_source(
-    net: &[u8],
-    out: &mut [u8],
-    at: usize,
-    i: usize,
-    layout: Layout,
-    before: usize,
-) -> usize
-    requires { SourceRoom net.now (length out.old) at layout.parts.count layout.parts.wires layout.undriven before }
-    ensures { (result ≡ before + undrivens (sources (net_here net.now) 1 i before))
-        × (out.new ≡ sets out.old at (source_rows layout.undriven (layout.parts.count - 1) (sources (net_here net.now) 1 i before))) }
+fn put_source(out: &mut [u8], at: usize, i: usize, layout: Layout, before: usize) -> usize
+    requires { SourceRoom layout.net.now (length out.old) at layout.parts.count layout.parts.wires layout.undriven before }
+    ensures { (result ≡ before + undrivens (sources (net_here layout.entry.net.now) 1 i before))
+        × (out.new ≡ sets out.old at (source_rows layout.entry.undriven (layout.entry.parts.count - 1) (sources (net_here layout.entry.net.now) 1 i before))) }
 {
-    let Some(d) = gates::driver(net, layout.parts.wires, i) else {
+    let Some(d) = gates::driver(layout.net, layout.parts.wires, i) else {
         let binder = open_binder(layout.parts.count, layout.undriven, before);
         put(out, at, &[0x11, binder]);
         return before + 1;
     };
-    let r = gates::part_before(net, layout.parts.count, d as usize);
+    let r = gates::part_before(layout.net, layout.parts.count, d as usize);
     put(out, at, &[0x11, output_binder(layout.parts.count, r)]);
     before
 }
 
 // Those of at most two inputs.
 fn put_sources(
-    net: &[u8],
     out: &mut [u8],
     at: usize,
     first: usize,
@@ -177,18 +170,18 @@ fn put_sources(
     layout: Layout,
     before: usize,
 ) -> usize
-    requires { SourcesRoom net.now (length out.old) at first inputs layout.parts.count layout.parts.wires layout.undriven before }
-    ensures { (result ≡ before + undrivens (sources (net_here net.now) inputs first before))
-        × (out.new ≡ sets out.old at (source_rows layout.undriven (layout.parts.count - 1) (sources (net_here net.now) inputs first before))) }
+    requires { SourcesRoom layout.net.now (length out.old) at first inputs layout.parts.count layout.parts.wires layout.undriven before }
+    ensures { (result ≡ before + undrivens (sources (net_here layout.entry.net.now) inputs first before))
+        × (out.new ≡ sets out.old at (source_rows layout.entry.undriven (layout.entry.parts.count - 1) (sources (net_here layout.entry.net.now) inputs first before))) }
 {
     if inputs == 0 {
         return before;
     }
-    let one = put_source(net, out, at, first, layout, before);
+    let one = put_source(out, at, first, layout, before);
     if inputs == 1 {
         return one;
     }
-    put_source(net, out, at + 2, first + 1, layout, one)
+    put_source(out, at + 2, first + 1, layout, one)
 }
 
 // A pair, where more than one part is left; past it.
@@ -214,18 +207,18 @@ fn put_head(out: &mut [u8], at: usize, part: u8, inputs: usize) -> usize
 }
 
 // The part at a place, applied to its drivers: its record stands at `here.gate`, and it is written from `here.at` on.
-fn put_part(net: &[u8], out: &mut [u8], here: Next, r: usize, layout: Layout) -> Next
-    requires { PartRoom net.now (length out.old) here.at here.gate r layout.parts.count layout.parts.wires layout.undriven here.before }
-    ensures { (result.at ≡ here.at + length (gate_row layout.undriven (layout.parts.count - 1) (layout.parts.count - r) (gate_of (net_here net.now) (get_or (net_here net.now).elements r (point 0)) here.before)))
-        × (result.before ≡ here.before + undrivens (gate_of (net_here net.now) (get_or (net_here net.now).elements r (point 0)) here.before).ins)
+fn put_part(out: &mut [u8], here: Next, r: usize, layout: Layout) -> Next
+    requires { PartRoom layout.net.now (length out.old) here.at here.gate r layout.parts.count layout.parts.wires layout.undriven here.before }
+    ensures { (result.at ≡ here.at + length (gate_row layout.entry.undriven (layout.entry.parts.count - 1) (layout.entry.parts.count - r) (gate_of (net_here layout.entry.net.now) (get_or (net_here layout.entry.net.now).elements r (point 0)) here.before)))
+        × (result.before ≡ here.before + undrivens (gate_of (net_here layout.entry.net.now) (get_or (net_here layout.entry.net.now).elements r (point 0)) here.before).ins)
         × (result.gate ≡ here.gate + 4)
-        × (out.new ≡ sets out.old here.at (gate_row layout.undriven (layout.parts.count - 1) (layout.parts.count - r) (gate_of (net_here net.now) (get_or (net_here net.now).elements r (point 0)) here.before))) }
+        × (out.new ≡ sets out.old here.at (gate_row layout.entry.undriven (layout.entry.parts.count - 1) (layout.entry.parts.count - r) (gate_of (net_here layout.entry.net.now) (get_or (net_here layout.entry.net.now).elements r (point 0)) here.before))) }
 {
-    let g = gates::gate_at(net, here.gate);
+    let g = gates::gate_at(layout.net, here.gate);
     let inputs = netlist::inputs_of(g.part) as usize;
     let head = put_pair(out, here.at, layout.parts.count - r);
     let mid = put_head(out, head, g.part, inputs);
-    let then = put_sources(net, out, mid, g.first as usize, inputs, layout, here.before);
+    let then = put_sources(out, mid, g.first as usize, inputs, layout, here.before);
     let end = mid + 2 * inputs;
     Next {
         at: end,
@@ -235,9 +228,9 @@ fn put_part(net: &[u8], out: &mut [u8], here: Next, r: usize, layout: Layout) ->
 }
 
 // All parts, as pairs nested to the right.
-fn put_parts(net: &[u8], out: &mut [u8], from: usize, layout: Layout)
-    requires { PartsRoom net.now (length out.old) from layout.parts.count layout.parts.wires layout.undriven }
-    ensures { out.new ≡ sets out.old from (term_bytes (tuple_term layout.undriven (layout.parts.count - 1) (gatesOf (net_here net.now)))) }
+fn put_parts(out: &mut [u8], from: usize, layout: Layout)
+    requires { PartsRoom layout.net.now (length out.old) from layout.parts.count layout.parts.wires layout.undriven }
+    ensures { out.new ≡ sets out.old from (term_bytes (tuple_term layout.entry.undriven (layout.entry.parts.count - 1) (gatesOf (net_here layout.entry.net.now)))) }
 {
     let mut next = Next {
         at: from,
@@ -245,14 +238,14 @@ fn put_parts(net: &[u8], out: &mut [u8], from: usize, layout: Layout)
         gate: 0,
     };
     for r in 0..layout.parts.count {
-        next = put_part(net, out, next, r, layout);
+        next = put_part(out, next, r, layout);
     }
 }
 
 // The whole sheet, from the start of the output.
-pub fn sheet(net: &[u8], out: &mut [u8], layout: Layout)
-    requires { SheetRoom net.now (length out.old) layout.parts.count layout.parts.wires layout.undriven }
-    ensures { out.new ≡ sets out.old 0 (back_sheet (net_here net.now)) }
+pub fn sheet(out: &mut [u8], layout: Layout)
+    requires { SheetRoom layout.net.now (length out.old) layout.parts.count layout.parts.wires layout.undriven }
+    ensures { out.new ≡ sets out.old 0 (back_sheet (net_here layout.entry.net.now)) }
 {
     let q = layout.parts.count - 1;
     let whole = tuple(q);
@@ -261,5 +254,5 @@ pub fn sheet(net: &[u8], out: &mut [u8], layout: Layout)
     let at = functions + 2 * layout.undriven;
     put(out, at, &[0x19, whole as u8]);
     put_projections(out, at + 2, q);
-    put_parts(net, out, at + 2 + 3 * q, layout);
+    put_parts(out, at + 2 + 3 * q, layout);
 }

@@ -34,6 +34,9 @@ fn adds_up(lengths: &[u32], bytes: usize) -> bool
     rest == 0
 }
 
+// The output, the results, the working memory and the wish go one by one through `batch`, `each` and `one`: a call gets a part of the output,
+// `&mut out[used..]`, and the rest whole, so a struct would be made anew at each call.
+//
 // One sheet is translated to the front of an output, and its result is stored at a place. The bytes used.
 fn one(
     sheet: &[u8],

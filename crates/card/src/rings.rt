@@ -9,6 +9,9 @@ use memory::POINT;
 // So many terminals are first looked at without a way out, so that the compiler takes several at once.
 const BLOCK: usize = 512;
 
+// The memory, the end and the pins stay three arguments: of the functions here none reads the number of pins, which is there for `LeanReady` alone, and
+// `judge`, `unread`, `mark_wires` and `mark_pins` change the memory between two looks.
+//
 // x is the output of one: a point's, whose input has a wire.
 fn is_ring_at(work: &[u16], end: usize, pins: usize, x: usize) -> bool
     requires { LeanReady work.now end pins × (x < end) }

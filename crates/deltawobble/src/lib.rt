@@ -16,6 +16,8 @@ ghost use Rattle.deltawobble.specs.Boundary.{Packs, PacksBatch, PacksLanes, Pack
 
 use translation::Wish;
 
+// The arguments of each call are the C interface, so they stay single slices, numbers and flags.
+//
 // The netlist of a sheet. Bits 0 to 31 of the answer are the number of bytes written or the place, 32 to 39 the refusal's number, 0 for none,
 // 40 to 51 the type number wanted and 52 to 63 the one found.
 #[unsafe(no_mangle)]

@@ -31,6 +31,9 @@ fn starts_at(lean: bool, first: usize, next: usize) -> bool
     if lean { next <= first } else { first == next }
 }
 
+// `element`, `part` and `take` get `lean` beside the state: it stays the same for a whole netlist, and with it in the state each clause of a result
+// would also have to say that it has not changed.
+//
 // An element, of some inputs and one output behind them.
 fn element(
     work: &mut [u16],

@@ -76,7 +76,8 @@ fn name_point(work: &mut [u16], n: u16)
     }
 }
 
-// The element of this kind that starts at terminal n; the next free terminal.
+// The element of this kind that starts at terminal n; the next free terminal. The kind is the number that the working memory holds, here and in
+// `first_of`: see netlist::output_of.
 fn name_one(work: &mut [u16], kind: u16, n: u16) -> u16
     requires { (memory_size ≤ length work.old) × ((kind < 8) × (after kind n ≤ 8192)) }
     ensures { (result ≡ after kind n) × (work.new ≡ named_all work.old (elements_from (kind ∷ []) n)) }

@@ -24,6 +24,8 @@ pub fn blank(work: &mut [u16])
     work[ROOTS..ROOTS + TERMINALS].fill(0);
 }
 
+// The kind is the number that the working memory holds, here and in `start_one`: see netlist::output_of.
+//
 // Of an element's output o: one that stays is its own root; any other is not settled yet.
 fn first_of(work: &[u16], kind: u16, n: u16, o: Out) -> u16
     requires { (memory_size ≤ length work.now) × ((after kind n ≤ 8192) × (o.0 ≡ output_of kind n)) }
@@ -64,6 +66,8 @@ pub fn start(work: &mut [u16], elements: usize) -> u16
     n
 }
 
+// The memory and what is known of it stay two arguments, here and in `walk`, `meet`, `round` and `near`: `settle` changes the memory between two looks.
+//
 // One step back from output x, which is not settled.
 fn back_of(work: &[u16], full: Full, x: Out) -> Out
     requires { Partly work.now full.elements full.wires full.pins × (Output work.now full.elements full.wires full.pins x.0 × (entry work.now x.0 ≡ 65535)) }

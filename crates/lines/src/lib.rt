@@ -7,7 +7,7 @@ ghost use Rattle.parts.specs.Table.{name_at};
 ghost use Rattle.lines.specs.Figure.{figure, figures};
 ghost use Rattle.lines.specs.OneLine.{point_line, part_line, wired_line, pin_line, refused_line};
 ghost use Rattle.calculus.specs.NetRead.{two_at};
-ghost use Rattle.lines.specs.InBytes.{record_size, size_at, line_at};
+ghost use Rattle.lines.specs.InBytes.{size_at, line_at};
 ghost use Rattle.lines.specs.Wrote.{WroteText};
 
 // A word. As each function here, it answers the offset past what it wrote.
@@ -128,19 +128,6 @@ pub fn refused_line(text: &mut [u8], at: usize, number: u8, place: usize) -> usi
     end + 1
 }
 
-// The length of a record of a kind; 0 where the kind is unknown.
-fn size_of(kind: u8) -> usize
-    ensures { result ≡ record_size kind }
-{
-    match kind {
-        0x21 => 3,
-        0x22 => 4,
-        0x23 => 5,
-        0x24 => 3,
-        _ => 0,
-    }
-}
-
 // The length of the record that stands at an offset of a netlist; 0 where none stands whole, and no `Option`: `lines_from` adds up the lengths.
 pub fn size_at(net: &[u8], at: usize) -> usize
     ensures { result ≡ size_at net.now at }
@@ -148,7 +135,12 @@ pub fn size_at(net: &[u8], at: usize) -> usize
     if net.len() <= at {
         return 0;
     }
-    let size = size_of(net[at]);
+    let size = match net[at] {
+        0x21 | 0x24 => 3,
+        0x22 => 4,
+        0x23 => 5,
+        _ => 0,
+    };
     if size <= net.len() - at { size } else { 0 }
 }
 

@@ -27,14 +27,12 @@ fn own_elements(s: &[u8], sizes: &[u8], node: Node) -> usize
     }
 }
 
-// So many elements, from an offset on, name a node.
+// So many elements, from an offset on, name a node. They stand in the one working memory, since memory is fixed: so there is an offset and a count.
 fn name_own(work: &mut [u16], to: usize, count: usize, node: u16)
     requires { to + count ≤ length work.old }
     ensures { work.new ≡ sets work.old to (replicate count node) }
 {
-    for i in 0..count {
-        work[to + i] = node;
-    }
+    work[to..to + count].fill(node);
 }
 
 // The makers of a term's elements, in making order. The term begins at an offset of the sheet's records and has so many nodes.

@@ -53,7 +53,7 @@ fn record_at(s: &[u8], at: usize) -> Option<Record>
     }
 }
 
-// The bytes of a record.
+// The bytes of a record. A table of the format: no derive and no conversion of the library gives these numbers.
 fn size_of(r: Record) -> usize
     ensures { result ≡ item_size (said_record r) }
 {

@@ -76,6 +76,8 @@ pub fn put_point(out: &mut [u8], at: usize, input: In) -> usize
     put_two(out, at + 1, input.0)
 }
 
+// The `kind` of a part, here and below where it is one byte, is its number: `part kind first` and `part_at` of the definitions take any byte for it.
+//
 // A part: 22, its number, its first terminal.
 pub fn put_part(out: &mut [u8], at: usize, kind: u8, first: u16) -> usize
     requires { at + 4 ≤ length out.old }
@@ -135,6 +137,9 @@ pub fn inputs_of(kind: u8) -> u16
     part.inputs as u16
 }
 
+// The `kind` of an element is the number that the working memory holds: `output_of`, `after` and `elements_from` of the definitions take any such number,
+// also one that is no kind's, and `lean::roots` promises its result for these too. So it is no enum, from here on.
+//
 // The output of an element of a kind that starts at n.
 pub fn output_of(kind: u16, n: u16) -> Out
     requires { n ≤ 8192 }
@@ -186,6 +191,9 @@ pub fn full_length(work: &[u16], elements: usize, wires: usize, pins: usize, pla
     sum + node_size(elements, plain)
 }
 
+// The output, the offset, the terminal and the node go one by one through `put_plain`, `put_node`, `put_element` and the functions of one record: an
+// element's kind, terminal and node are known only where it is written, so a struct of them would be made for a single call.
+//
 // The plain record of an element of a kind that starts at terminal n.
 fn put_plain(out: &mut [u8], at: usize, kind: u16, n: u16) -> usize
     requires { (kind < 8) × (at + element_size kind ≤ length out.old) }
@@ -225,62 +233,82 @@ pub fn put_element(out: &mut [u8], at: usize, kind: u16, n: u16, node: u16, plai
     }
 }
 
-// The records of all elements, from an offset on.
-fn put_elements(work: &[u16], elements: usize, out: &mut [u8], from: usize, plain: bool) -> usize
-    requires { ElementsFit plain work.now elements (length out.old) from }
-    ensures { (result ≡ from + length (element_records plain (elements_from (region work.now elements_at elements) 0) (region work.now makers_at elements)))
-        × (out.new ≡ sets out.old from (element_records plain (elements_from (region work.now elements_at elements) 0) (region work.now makers_at elements))) }
-{
-    let mut at = from;
-    let mut n: u16 = 0;
-    for i in 0..elements {
-        let kind = work[memory::ELEMENTS + i];
-        let node = work[memory::MAKERS + i];
-        at = put_element(out, at, kind, n, node, plain);
-        n = next_after(kind, n);
-    }
-    at
+// The full netlist that stands in the working memory: the numbers of its elements, wires and pins, and whether the records are of the plain kinds.
+#[derive(Clone, Copy, Debug, PartialEq, Eq)]
+struct Full<'a> {
+    work: &'a [u16],
+    elements: usize,
+    wires: usize,
+    pins: usize,
+    plain: bool,
 }
 
-// The same, with the wish known: no loop then tests it at each element.
-fn put_wished(work: &[u16], elements: usize, out: &mut [u8], from: usize, plain: bool) -> usize
-    requires { ElementsFit plain work.now elements (length out.old) from }
-    ensures { (result ≡ from + length (element_records plain (elements_from (region work.now elements_at elements) 0) (region work.now makers_at elements)))
-        × (out.new ≡ sets out.old from (element_records plain (elements_from (region work.now elements_at elements) 0) (region work.now makers_at elements))) }
-{
-    if plain {
-        put_elements(work, elements, out, from, true)
-    } else {
-        put_elements(work, elements, out, from, false)
+impl<'a> Full<'a> {
+    // The records of all elements, from an offset on.
+    fn put_elements(self, out: &mut [u8], from: usize) -> usize
+        requires { ElementsFit self.plain self.work.now self.elements (length out.old) from }
+        ensures { (result ≡ from + length (element_records self.entry.plain (elements_from (region self.entry.work.now elements_at self.entry.elements) 0) (region self.entry.work.now makers_at self.entry.elements)))
+            × (out.new ≡ sets out.old from (element_records self.entry.plain (elements_from (region self.entry.work.now elements_at self.entry.elements) 0) (region self.entry.work.now makers_at self.entry.elements))) }
+    {
+        let mut at = from;
+        let mut n: u16 = 0;
+        for i in 0..self.elements {
+            let kind = self.work[memory::ELEMENTS + i];
+            let node = self.work[memory::MAKERS + i];
+            at = put_element(out, at, kind, n, node, self.plain);
+            n = next_after(kind, n);
+        }
+        at
     }
-}
 
-// The records of all wires, from an offset on.
-fn put_wires(work: &[u16], wires: usize, out: &mut [u8], from: usize) -> usize
-    requires { WiresFit work.now wires (length out.old) from }
-    ensures { (result ≡ from + 5 * wires)
-        × (out.new ≡ sets out.old from (wire_bytes (wires_from work.now (region work.now targets_at wires)))) }
-{
-    let mut at = from;
-    for i in 0..wires {
-        let to = work[memory::TARGETS + i];
-        let driver = work[memory::DRIVERS + to as usize];
-        at = put_wire(out, at, Out(driver), In(to));
+    // The same, with the wish known: no loop then tests it at each element.
+    fn put_wished(self, out: &mut [u8], from: usize) -> usize
+        requires { ElementsFit self.plain self.work.now self.elements (length out.old) from }
+        ensures { (result ≡ from + length (element_records self.entry.plain (elements_from (region self.entry.work.now elements_at self.entry.elements) 0) (region self.entry.work.now makers_at self.entry.elements)))
+            × (out.new ≡ sets out.old from (element_records self.entry.plain (elements_from (region self.entry.work.now elements_at self.entry.elements) 0) (region self.entry.work.now makers_at self.entry.elements))) }
+    {
+        if self.plain {
+            Full {
+                plain: true,
+                ..self
+            }
+            .put_elements(out, from)
+        } else {
+            Full {
+                plain: false,
+                ..self
+            }
+            .put_elements(out, from)
+        }
     }
-    at
-}
 
-// The records of all pins, from an offset on.
-fn put_pins(work: &[u16], pins: usize, out: &mut [u8], from: usize) -> usize
-    requires { PinsFit work.now pins (length out.old) from }
-    ensures { (result ≡ from + 3 * pins)
-        × (out.new ≡ sets out.old from (pin_bytes (map terminal_of (region work.now stack_at pins)))) }
-{
-    let mut at = from;
-    for i in 0..pins {
-        at = put_pin(out, at, terminal_of(work[memory::STACK + i]));
+    // The records of all wires, from an offset on.
+    fn put_wires(self, out: &mut [u8], from: usize) -> usize
+        requires { WiresFit self.work.now self.wires (length out.old) from }
+        ensures { (result ≡ from + 5 * self.entry.wires)
+            × (out.new ≡ sets out.old from (wire_bytes (wires_from self.entry.work.now (region self.entry.work.now targets_at self.entry.wires)))) }
+    {
+        let mut at = from;
+        for i in 0..self.wires {
+            let to = self.work[memory::TARGETS + i];
+            let driver = self.work[memory::DRIVERS + to as usize];
+            at = put_wire(out, at, Out(driver), In(to));
+        }
+        at
     }
-    at
+
+    // The records of all pins, from an offset on.
+    fn put_pins(self, out: &mut [u8], from: usize) -> usize
+        requires { PinsFit self.work.now self.pins (length out.old) from }
+        ensures { (result ≡ from + 3 * self.entry.pins)
+            × (out.new ≡ sets out.old from (pin_bytes (map terminal_of (region self.entry.work.now stack_at self.entry.pins)))) }
+    {
+        let mut at = from;
+        for i in 0..self.pins {
+            at = put_pin(out, at, terminal_of(self.work[memory::STACK + i]));
+        }
+        at
+    }
 }
 
 // The full netlist that stands in the working memory, written from the start of the output; its length.
@@ -296,7 +324,14 @@ pub fn write_full(
     ensures { (result ≡ length (written plain (net_in work.now elements wires pins) (region work.now makers_at elements)))
         × (out.new ≡ sets out.old 0 (written plain (net_in work.now elements wires pins) (region work.now makers_at elements))) }
 {
-    let first = put_wished(work, elements, out, 0, plain);
-    let second = put_wires(work, wires, out, first);
-    put_pins(work, pins, out, second)
+    let full = Full {
+        work,
+        elements,
+        wires,
+        pins,
+        plain,
+    };
+    let first = full.put_wished(out, 0);
+    let second = full.put_wires(out, first);
+    full.put_pins(out, second)
 }

@@ -4,7 +4,7 @@ ghost use Rattle.trace.specs.Said.{lent_in, Safe, Roomy, Freed};
 
 use crate::ordering::Order;
 use answers::{Reason, Refusal};
-use trace_flat::{bits, layout};
+use trace_flat::{Sizes, bits, layout};
 use trace_steps::{pins, ticks};
 
 // The input and start bits are of the exact number, and bits.
@@ -42,6 +42,12 @@ pub fn run(
     }
     layout::lay(work, order.end, order.settled, regs, order.pins);
     bits::wake(work, starts, regs);
-    bits::run(work, inputs, out, order.settled, regs, ins, outs, ticks);
+    let sizes = Sizes {
+        settled: order.settled,
+        regs,
+        ins,
+        outs,
+    };
+    bits::run(work, inputs, out, sizes, ticks);
     Ok(writes)
 }

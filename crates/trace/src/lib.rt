@@ -16,6 +16,10 @@ ghost use Rattle.trace.specs.Said.{LanesSay, lanes_called};
 
 use answers::Refusal;
 
+// `run_sheet` and `lanes_sheet` stay two functions: a trace has start bits that are read, sixteen traces have a state that is written, and their clauses,
+// by `AnswerSays` and by `LanesSay`, have only `Keeps` in common. The buffers go one by one through `run`, `lanes`, `run_sheet`, `lanes_sheet` and
+// `run_net`: the caller lends each, and the clauses say of each alone what is left in it.
+//
 // The netlist is made and run. The working memory is not yet cleared.
 fn run_sheet(
     sheet: &[u8],

@@ -13,7 +13,7 @@ ghost use Rattle.trace.specs.Tables.{FewParts};
 use crate::ordering;
 use crate::ordering::Order;
 use answers::{Reason, Refusal};
-use trace_flat::{lanes, layout};
+use trace_flat::{Sizes, lanes, layout};
 use trace_steps::{pins, ticks};
 use wiring::Counts;
 
@@ -49,7 +49,13 @@ fn run(
     }
     layout::lay(work, order.end, order.settled, regs, order.pins);
     lanes::wake(work, &state[..], regs);
-    lanes::run(work, inputs, out, order.settled, regs, ins, outs, ticks);
+    let sizes = Sizes {
+        settled: order.settled,
+        regs,
+        ins,
+        outs,
+    };
+    lanes::run(work, inputs, out, sizes, ticks);
     lanes::keep(&work[..], state, regs);
     Ok(writes)
 }

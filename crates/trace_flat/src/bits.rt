@@ -7,6 +7,7 @@ ghost use Rattle.trace_flat.specs.Flat.{flat_most, shown_at, Stretched};
 ghost use Rattle.trace_flat.specs.FlatTicks.{Flat, counts, flat_wake, FlatFits, FlatRan};
 
 use crate::ticks;
+use crate::ticks::Sizes;
 
 // The registers' start bits.
 pub fn wake(work: &mut [u16], starts: &[u8], regs: usize)
@@ -17,18 +18,9 @@ pub fn wake(work: &mut [u16], starts: &[u8], regs: usize)
 }
 
 // So many ticks, each with so many input and output bits.
-pub fn run(
-    work: &mut [u16],
-    inputs: &[u8],
-    out: &mut [u8],
-    settled: usize,
-    regs: usize,
-    ins: usize,
-    outs: usize,
-    ticks: usize,
-)
-    requires { (Flat work.old settled regs ins outs) × (FlatFits (length inputs.now) (length out.old) ins outs ticks) }
-    ensures { FlatRan lane_zero (counts settled regs ins outs) inputs.now ticks work.old out.old work.new out.new }
+pub fn run(work: &mut [u16], inputs: &[u8], out: &mut [u8], sizes: Sizes, ticks: usize)
+    requires { (Flat work.old sizes.settled sizes.regs sizes.ins sizes.outs) × (FlatFits (length inputs.now) (length out.old) sizes.ins sizes.outs ticks) }
+    ensures { FlatRan lane_zero (counts sizes.settled sizes.regs sizes.ins sizes.outs) inputs.now ticks work.old out.old work.new out.new }
 {
-    ticks::run(work, inputs, out, settled, regs, ins, outs, ticks);
+    ticks::run(work, inputs, out, sizes, ticks);
 }

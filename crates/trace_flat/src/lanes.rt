@@ -8,6 +8,7 @@ ghost use Rattle.trace_flat.specs.FlatTicks.{Flat, counts, flat_wake, flat_keep,
 
 use crate::layout::SHOWN;
 use crate::ticks;
+use crate::ticks::Sizes;
 
 // What the registers show at tick 0.
 pub fn wake(work: &mut [u16], state: &[u16], regs: usize)
@@ -28,18 +29,9 @@ pub fn keep(work: &[u16], state: &mut [u16], regs: usize)
 }
 
 // So many ticks, each with so many input and output numbers.
-pub fn run(
-    work: &mut [u16],
-    inputs: &[u16],
-    out: &mut [u16],
-    settled: usize,
-    regs: usize,
-    ins: usize,
-    outs: usize,
-    ticks: usize,
-)
-    requires { (Flat work.old settled regs ins outs) × (FlatFits (length inputs.now) (length out.old) ins outs ticks) }
-    ensures { FlatRan entire (counts settled regs ins outs) inputs.now ticks work.old out.old work.new out.new }
+pub fn run(work: &mut [u16], inputs: &[u16], out: &mut [u16], sizes: Sizes, ticks: usize)
+    requires { (Flat work.old sizes.settled sizes.regs sizes.ins sizes.outs) × (FlatFits (length inputs.now) (length out.old) sizes.ins sizes.outs ticks) }
+    ensures { FlatRan entire (counts sizes.settled sizes.regs sizes.ins sizes.outs) inputs.now ticks work.old out.old work.new out.new }
 {
-    ticks::run(work, inputs, out, settled, regs, ins, outs, ticks);
+    ticks::run(work, inputs, out, sizes, ticks);
 }

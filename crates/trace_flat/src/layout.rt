@@ -50,7 +50,8 @@ fn place(work: &mut [u16], end: usize)
     }
 }
 
-// .. or side by side from `first` on, those of the terminals in a list.
+// .. or side by side from `first` on, those of the terminals in a list. The list is `n` numbers of the same memory, from `list` on: a slice of it could
+// not be lent beside the memory that is changed.
 fn place_listed(work: &mut [u16], list: usize, n: usize, first: usize)
     requires { (Listed work.old list n) × (first + n ≤ memory_size) }
     ensures { Looped (place_next list first) n work.old work.new }

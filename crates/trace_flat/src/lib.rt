@@ -6,3 +6,5 @@ pub mod lanes;
 pub mod layout;
 pub mod steps;
 mod ticks;
+
+pub use ticks::Sizes;

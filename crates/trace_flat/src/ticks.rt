@@ -54,6 +54,15 @@ impl Sample for u16 {
     }
 }
 
+// How many gates the order has, and how many registers, input pins and output pins there are.
+#[derive(Clone, Copy, Debug, PartialEq, Eq)]
+pub struct Sizes {
+    pub settled: usize,
+    pub regs: usize,
+    pub ins: usize,
+    pub outs: usize,
+}
+
 // The registers' start bits.
 pub fn wake<T: Sample>(work: &mut [u16], starts: &[T], regs: usize)
     requires { (memory_size ≤ length work.old) × ((regs ≤ flat_most) × (regs ≤ length starts.now)) }
@@ -98,40 +107,28 @@ fn tick<T: Sample>(
     work: &mut [u16],
     inputs: &[T],
     out: &mut [T],
-    settled: usize,
-    regs: usize,
-    ins: usize,
-    outs: usize,
+    sizes: Sizes,
     from: usize,
     to: usize,
 )
-    requires { (Flat work.old settled regs ins outs) × ((from + ins ≤ length inputs.now) × (to + outs ≤ length out.old)) }
-    ensures { FlatTicked T.shows (counts settled regs ins outs) (map T.lanes inputs.now) from to work.old (map T.lanes out.old) work.new (map T.lanes out.new) }
+    requires { (Flat work.old sizes.settled sizes.regs sizes.ins sizes.outs) × ((from + sizes.ins ≤ length inputs.now) × (to + sizes.outs ≤ length out.old)) }
+    ensures { FlatTicked T.shows (counts sizes.settled sizes.regs sizes.ins sizes.outs) (map T.lanes inputs.now) from to work.old (map T.lanes out.old) work.new (map T.lanes out.new) }
 {
-    load(work, inputs, ins, from);
-    steps::pass(work, settled);
-    store(&work[..], out, outs, to);
-    steps::hold(work, regs);
-    steps::turn(work, regs);
+    load(work, inputs, sizes.ins, from);
+    steps::pass(work, sizes.settled);
+    store(&work[..], out, sizes.outs, to);
+    steps::hold(work, sizes.regs);
+    steps::turn(work, sizes.regs);
 }
 
 // So many ticks, each with so many inputs and outputs.
-pub fn run<T: Sample>(
-    work: &mut [u16],
-    inputs: &[T],
-    out: &mut [T],
-    settled: usize,
-    regs: usize,
-    ins: usize,
-    outs: usize,
-    ticks: usize,
-)
-    requires { (Flat work.old settled regs ins outs) × (FlatFits (length inputs.now) (length out.old) ins outs ticks) }
-    ensures { FlatRan T.shows (counts settled regs ins outs) (map T.lanes inputs.now) ticks work.old (map T.lanes out.old) work.new (map T.lanes out.new) }
+pub fn run<T: Sample>(work: &mut [u16], inputs: &[T], out: &mut [T], sizes: Sizes, ticks: usize)
+    requires { (Flat work.old sizes.settled sizes.regs sizes.ins sizes.outs) × (FlatFits (length inputs.now) (length out.old) sizes.ins sizes.outs ticks) }
+    ensures { FlatRan T.shows (counts sizes.settled sizes.regs sizes.ins sizes.outs) (map T.lanes inputs.now) ticks work.old (map T.lanes out.old) work.new (map T.lanes out.new) }
 {
     for t in 0..ticks {
-        let from = t * ins;
-        let to = t * outs;
-        tick(work, inputs, out, settled, regs, ins, outs, from, to);
+        let from = t * sizes.ins;
+        let to = t * sizes.outs;
+        tick(work, inputs, out, sizes, from, to);
     }
 }

@@ -8,6 +8,8 @@ ghost use Rattle.trace_rings.specs.Rings.{Rest, InputAmong, meet_in, look_in, Fr
 use trace_steps::table;
 use trace_steps::table::{BITS, ORDER, REST};
 
+// Those met stand in the working memory from ORDER on, since memory is fixed; so `meet` and `look` are told how many there are, and hand it back.
+//
 // Output y gets the stamp and joins the n that are met, where it is not settled and has no such stamp yet; how many are met.
 fn meet(work: &mut [u16], y: usize, stamp: u16, n: usize) -> usize
     requires { (memory_size ≤ length work.old) × ((y < 8192) × (n ≤ 5120)) }

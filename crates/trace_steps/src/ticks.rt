@@ -11,6 +11,14 @@ ghost use Rattle.trace_steps.specs.Ticks.{sizes, Runs, Ticked, TraceFits, Ran};
 use crate::table::{BITS, ORDER, REGISTERS};
 use crate::{pins, table};
 
+// How many outputs stand in the order, and how many registers and pins there are.
+#[derive(Clone, Copy, Debug, PartialEq, Eq)]
+pub struct Counts {
+    pub settled: usize,
+    pub regs: usize,
+    pub pins: usize,
+}
+
 // Every bit is 0, but those of a part one.
 pub fn begin(work: &mut [u16], end: usize)
     requires { (memory_size ≤ length work.old) × (end ≤ 8192) }
@@ -107,24 +115,15 @@ pub fn clock(work: &mut [u16], regs: usize, turning: bool)
 }
 
 // One tick: its input bits from byte `from` on, its output bits to byte `to` on.
-fn tick(
-    work: &mut [u16],
-    inputs: &[u8],
-    out: &mut [u8],
-    settled: usize,
-    regs: usize,
-    pins: usize,
-    from: usize,
-    to: usize,
-)
-    requires { (Runs work.old settled regs pins) × ((from + in_pin_count work.old pins ≤ length inputs.now) × (to + out_pin_count work.old pins ≤ length out.old)) }
-    ensures { Ticked lane_zero (sizes settled regs pins) inputs.now from to work.old out.old work.new out.new }
+fn tick(work: &mut [u16], inputs: &[u8], out: &mut [u8], counts: Counts, from: usize, to: usize)
+    requires { (Runs work.old counts.settled counts.regs counts.pins) × ((from + in_pin_count work.old counts.pins ≤ length inputs.now) × (to + out_pin_count work.old counts.pins ≤ length out.old)) }
+    ensures { Ticked lane_zero (sizes counts.settled counts.regs counts.pins) inputs.now from to work.old out.old work.new out.new }
 {
-    let read = pins::load(work, inputs, pins, from);
-    pass(work, settled);
-    let written = pins::store(&work[..], out, pins, to);
-    clock(work, regs, false);
-    clock(work, regs, true);
+    let read = pins::load(work, inputs, counts.pins, from);
+    pass(work, counts.settled);
+    let written = pins::store(&work[..], out, counts.pins, to);
+    clock(work, counts.regs, false);
+    clock(work, counts.regs, true);
 }
 
 // So many ticks, each with so many input and output bits.
@@ -132,20 +131,18 @@ pub fn run(
     work: &mut [u16],
     inputs: &[u8],
     out: &mut [u8],
-    settled: usize,
-    regs: usize,
-    pins: usize,
+    counts: Counts,
     reads: usize,
     writes: usize,
     ticks: usize,
 )
-    requires { (Runs work.old settled regs pins) × (TraceFits work.old (length inputs.now) (length out.old) pins reads writes ticks) }
-    ensures { Ran lane_zero (sizes settled regs pins) inputs.now reads writes ticks work.old out.old work.new out.new }
+    requires { (Runs work.old counts.settled counts.regs counts.pins) × (TraceFits work.old (length inputs.now) (length out.old) counts.pins reads writes ticks) }
+    ensures { Ran lane_zero (sizes counts.settled counts.regs counts.pins) inputs.now reads writes ticks work.old out.old work.new out.new }
 {
     for t in 0..ticks {
         let from = t * reads;
         let to = t * writes;
-        tick(work, inputs, out, settled, regs, pins, from, to);
+        tick(work, inputs, out, counts, from, to);
     }
 }
 

@@ -20,6 +20,9 @@ pub struct Wish {
     pub card: bool,
 }
 
+// The buffers and the wish go one by one through `run`, `translate`, `write`, `write_plain` and `write_card`: the caller lends each buffer, and the
+// clauses say of each alone what is left in it.
+//
 // The netlist is made and written. The working memory is not yet cleared.
 fn run(sheet: &[u8], out: &mut [u8], work: &mut [u16], wish: Wish) -> Result<usize, Refusal>
     ensures { (AnswerSays result out.old out.new (card_answer wish.card (length work.old) (said_wish wish) sheet.now (length out.old)))

@@ -18,55 +18,55 @@ ghost use Rattle.translator.specs.Made.{Keeps};
 ghost use Rattle.translator.specs.Said.{AnswerSays, called};
 
 use answers::{Reason, Refusal};
-use walk::Group;
+use walk::{Group, LeanNet};
 use wiring::Counts;
 
 // What stands before the elements. As each function that follows, it answers the offset past what it wrote.
-fn put_opening(work: &[u16], out: &mut [u8], end: usize, pins: usize) -> usize
-    requires { LeanReady work.now end pins }
-    ensures { WroteText out.old 0 (opening_text work.now end pins) out.new result }
+fn put_opening(net: LeanNet, out: &mut [u8]) -> usize
+    requires { LeanReady net.work.now net.end net.pins }
+    ensures { WroteText out.old 0 (opening_text net.entry.work.now net.entry.end net.entry.pins) out.new result }
 {
     let ports = form::put_form(out, 0, b"module circuit (\n  input clock", 0, 0, 0);
-    let closing = walk::put_group(work, end, pins, Group::Ports, out, ports);
+    let closing = net.put_group(Group::Ports, out, ports);
     form::put_form(out, closing, b"\n);\n", 0, 0, 0)
 }
 
 // Elements, wires and pins.
-fn put_body(work: &[u16], out: &mut [u8], end: usize, pins: usize, first: usize) -> usize
-    requires { LeanReady work.now end pins × (first ≤ 4194304) }
-    ensures { WroteText out.old first (body_text work.now end pins) out.new result }
+fn put_body(net: LeanNet, out: &mut [u8], first: usize) -> usize
+    requires { LeanReady net.work.now net.end net.pins × (first ≤ 4194304) }
+    ensures { WroteText out.old first (body_text net.entry.work.now net.entry.end net.entry.pins) out.new result }
 {
-    let second = walk::put_group(work, end, pins, Group::Elements, out, first);
-    let third = walk::put_group(work, end, pins, Group::Wires, out, second);
-    walk::put_group(work, end, pins, Group::Pins, out, third)
+    let second = net.put_group(Group::Elements, out, first);
+    let third = net.put_group(Group::Wires, out, second);
+    net.put_group(Group::Pins, out, third)
 }
 
 // The module's text, stored as far as the output reaches, and its length. So an output of any length tells the length, and one that is
 // long enough has the whole text.
-fn put_module(work: &[u16], out: &mut [u8], end: usize, pins: usize) -> usize
-    requires { LeanReady work.now end pins }
-    ensures { WroteText out.old 0 (module_text (lean_in work.now end pins)) out.new result }
+fn put_module(net: LeanNet, out: &mut [u8]) -> usize
+    requires { LeanReady net.work.now net.end net.pins }
+    ensures { WroteText out.old 0 (module_text (lean_in net.entry.work.now net.entry.end net.entry.pins)) out.new result }
 {
-    let first = put_opening(work, out, end, pins);
-    let last = put_body(work, out, end, pins, first);
+    let first = put_opening(net, out);
+    let last = put_body(net, out, first);
     form::put_form(out, last, b"endmodule\n", 0, 0, 0)
 }
 
 // Of the lean netlist that stands in the working memory: 18 where a ring point is kept, then 17 with the length needed where the output is
 // shorter, or the module at the start of the output. The first pass only tells the length.
-fn export_lean(work: &[u16], out: &mut [u8], end: usize, pins: usize) -> Result<usize, Refusal>
-    requires { LeanReady work.now end pins }
-    ensures { AnswerSays result out.old out.new (lean_exported (lean_in work.now end pins) (length out.old)) }
+fn export_lean(net: LeanNet, out: &mut [u8]) -> Result<usize, Refusal>
+    requires { LeanReady net.work.now net.end net.pins }
+    ensures { AnswerSays result out.old out.new (lean_exported (lean_in net.entry.work.now net.entry.end net.entry.pins) (length out.old)) }
 {
-    if let Some(place) = card::rings::lowest(work, end, pins) {
+    if let Some(place) = card::rings::lowest(net.work, net.end, net.pins) {
         return Err(Reason::VerilogRing.at(place));
     }
     let mut none = [0u8; 1];
-    let n = put_module(work, &mut none, end, pins);
+    let n = put_module(net, &mut none);
     if out.len() < n {
         return Err(Reason::ShortOutput.at(n));
     }
-    Ok(put_module(work, out, end, pins))
+    Ok(put_module(net, out))
 }
 
 // .. still to be made of the full one.
@@ -76,7 +76,12 @@ fn export_net(work: &mut [u16], out: &mut [u8], counts: Counts) -> Result<usize,
         × (Keeps work.old work.new) }
 {
     let end = lean::make_lean(work, counts.elements, counts.wires, counts.pins);
-    export_lean(&work[..], out, end, counts.pins)
+    let net = LeanNet {
+        work: &work[..],
+        end,
+        pins: counts.pins,
+    };
+    export_lean(net, out)
 }
 
 // The netlist is made and exported. The working memory is not yet cleared.

@@ -9,6 +9,7 @@ use crate::form;
 use netlist::{In, Out, Terminal};
 
 // An element of a kind whose first terminal is given: its nets, and what drives its output. A kind that is no part's number is a point's.
+// The kind is the number that the working memory holds, and that `kind_line` of the definitions takes for the form's place.
 pub fn put_element(out: &mut [u8], at: usize, kind: u16, first: u16) -> usize
     requires { (kind < 8) × (first ≤ 8192) × (at ≤ 4294967296) }
     ensures { WroteText out.old at (line_text element_forms (kind_line kind first)) out.new result }

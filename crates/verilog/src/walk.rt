@@ -22,92 +22,87 @@ pub enum Group {
     Pins,
 }
 
-// The lines of the element whose output is x. As each function that follows, it answers the offset past what it wrote.
-fn put_element(work: &[u16], end: usize, pins: usize, x: usize, out: &mut [u8], at: usize) -> usize
-    requires { LeanReady work.now end pins × ((x < end) × (at ≤ 4294967296)) }
-    ensures { WroteText out.old at (element_line_at (entry work.now x) x) out.new result }
-{
-    let v = work[LEAN + x];
-    if v < KIND {
-        return at;
-    }
-    if v >= LEFT_OUT {
-        return at;
-    }
-    let kind = v - KIND;
-    line::put_element(out, at, kind, lean::first_of(kind, x))
+// The lean netlist that stands in the working memory by terminal: the first terminal that no element takes, and the number of pins.
+#[derive(Clone, Copy, Debug, PartialEq, Eq)]
+pub struct LeanNet<'a> {
+    pub work: &'a [u16],
+    pub end: usize,
+    pub pins: usize,
 }
 
-// The line of the wire to input x.
-fn put_wire(work: &[u16], end: usize, pins: usize, x: usize, out: &mut [u8], at: usize) -> usize
-    requires { LeanReady work.now end pins × ((x < end) × (at ≤ 4294967296)) }
-    ensures { WroteText out.old at (wire_line_at (entry work.now x) x) out.new result }
-{
-    let v = work[LEAN + x];
-    if v == 0 {
-        return at;
+impl<'a> LeanNet<'a> {
+    // The lines of the element whose output is x. As each function that follows, it answers the offset past what it wrote.
+    fn put_element(self, x: usize, out: &mut [u8], at: usize) -> usize
+        requires { LeanReady self.work.now self.end self.pins × ((x < self.end) × (at ≤ 4294967296)) }
+        ensures { WroteText out.old at (element_line_at (entry self.entry.work.now x) x) out.new result }
+    {
+        let v = self.work[LEAN + x];
+        if v < KIND {
+            return at;
+        }
+        if v >= LEFT_OUT {
+            return at;
+        }
+        let kind = v - KIND;
+        line::put_element(out, at, kind, lean::first_of(kind, x))
     }
-    if v >= KIND {
-        return at;
-    }
-    line::put_wire(out, at, Out(v - 1), In(x as u16))
-}
 
-// The pin at position x.
-fn pin_at(work: &[u16], end: usize, pins: usize, x: usize) -> Terminal
-    requires { LeanReady work.now end pins × (x < pins) }
-    ensures { said_terminal result ≡ terminal_of (get_or work.now (lean_pins_at + x) 0) }
-{
-    netlist::terminal_of(work[PINS + x])
-}
-
-// How many terminals or pins a group goes over.
-fn count(group: Group, end: usize, pins: usize) -> usize
-    ensures { result ≡ count_of group end pins }
-{
-    match group {
-        Group::Ports | Group::Pins => pins,
-        Group::Elements | Group::Wires => end,
+    // The line of the wire to input x. Alike to the writer's of `lean`, but that one writes bytes: the two share no more than the tests of the entry.
+    fn put_wire(self, x: usize, out: &mut [u8], at: usize) -> usize
+        requires { LeanReady self.work.now self.end self.pins × ((x < self.end) × (at ≤ 4294967296)) }
+        ensures { WroteText out.old at (wire_line_at (entry self.entry.work.now x) x) out.new result }
+    {
+        let v = self.work[LEAN + x];
+        if v == 0 {
+            return at;
+        }
+        if v >= KIND {
+            return at;
+        }
+        line::put_wire(out, at, Out(v - 1), In(x as u16))
     }
-}
 
-// What a group has of terminal x, or of the pin at position x.
-fn put_line(
-    work: &[u16],
-    end: usize,
-    pins: usize,
-    group: Group,
-    x: usize,
-    out: &mut [u8],
-    at: usize,
-) -> usize
-    requires { LeanReady work.now end pins × ((x < count_of group end pins) × (at ≤ 4294967296)) }
-    ensures { WroteText out.old at (group_line_at group (get_or work.now (table_at group + x) 0) x) out.new result }
-{
-    match group {
-        Group::Ports => line::put_port(out, at, x, pin_at(work, end, pins, x)),
-        Group::Elements => put_element(work, end, pins, x, out, at),
-        Group::Wires => put_wire(work, end, pins, x, out, at),
-        Group::Pins => line::put_pin(out, at, x, pin_at(work, end, pins, x)),
+    // The pin at position x.
+    fn pin_at(self, x: usize) -> Terminal
+        requires { LeanReady self.work.now self.end self.pins × (x < self.pins) }
+        ensures { said_terminal result ≡ terminal_of (get_or self.entry.work.now (lean_pins_at + x) 0) }
+    {
+        netlist::terminal_of(self.work[PINS + x])
     }
-}
 
-// The lines of a group, by rising terminal or position.
-pub fn put_group(
-    work: &[u16],
-    end: usize,
-    pins: usize,
-    group: Group,
-    out: &mut [u8],
-    from: usize,
-) -> usize
-    requires { LeanReady work.now end pins × (from ≤ 16777216) }
-    ensures { WroteText out.old from (group_text group work.now end pins) out.new result }
-{
-    let n = count(group, end, pins);
-    let mut at = from;
-    for x in 0..n {
-        at = put_line(work, end, pins, group, x, out, at);
+    // How many terminals or pins a group goes over.
+    fn count(self, group: Group) -> usize
+        ensures { result ≡ count_of group self.entry.end self.entry.pins }
+    {
+        match group {
+            Group::Ports | Group::Pins => self.pins,
+            Group::Elements | Group::Wires => self.end,
+        }
     }
-    at
+
+    // What a group has of terminal x, or of the pin at position x.
+    fn put_line(self, group: Group, x: usize, out: &mut [u8], at: usize) -> usize
+        requires { LeanReady self.work.now self.end self.pins × ((x < count_of group self.end self.pins) × (at ≤ 4294967296)) }
+        ensures { WroteText out.old at (group_line_at group (get_or self.entry.work.now (table_at group + x) 0) x) out.new result }
+    {
+        match group {
+            Group::Ports => line::put_port(out, at, x, self.pin_at(x)),
+            Group::Elements => self.put_element(x, out, at),
+            Group::Wires => self.put_wire(x, out, at),
+            Group::Pins => line::put_pin(out, at, x, self.pin_at(x)),
+        }
+    }
+
+    // The lines of a group, by rising terminal or position.
+    pub fn put_group(self, group: Group, out: &mut [u8], from: usize) -> usize
+        requires { LeanReady self.work.now self.end self.pins × (from ≤ 16777216) }
+        ensures { WroteText out.old from (group_text group self.entry.work.now self.entry.end self.entry.pins) out.new result }
+    {
+        let n = self.count(group);
+        let mut at = from;
+        for x in 0..n {
+            at = self.put_line(group, x, out, at);
+        }
+        at
+    }
 }

@@ -7,6 +7,9 @@ ghost use Rattle.wiring.specs.Links.{wired, linked, links, Apart};
 use memory::TARGETS;
 use netlist::{In, Out, Terminal};
 
+// Interfaces, elements and wires stand in the one working memory, since memory is fixed: so the functions here and in `faces` take an offset and a
+// count, and no slices, of which two could not be lent at once. `count` is the number of the wire, here and in `link` and `connect`.
+//
 // The wire number `count`: its source is the driver of its target.
 fn wire(work: &mut [u16], from: Out, to: In, count: usize)
     requires { (memory_size ≤ length work.old) × (to.0 < 8192) × (count < 5632) }

@@ -14,9 +14,9 @@ use Rattle.back.proofs.write.put_part.Goals as goal
 pub put_head-mid-requires : goal.put_head-mid-requires
 put_head-mid-requires c =
     let a = c.args in
-    let m = net_here a.net.now in
+    let m = net_here a.layout.net.now in
     let g = c.gate_at-g in
-    let placed = gate-place a.net.now a.layout.parts.count a.r a.here.gate c.requires.limited.of c.requires.here c.requires.there g.result g.ensures in
+    let placed = gate-place a.layout.net.now a.layout.parts.count a.r a.here.gate c.requires.limited.of c.requires.here c.requires.there g.result g.ensures in
     let i = c.inputs_of-inputs.ensures in
     let p = c.put_pair-head in
     let k = p.auto.out in
@@ -28,9 +28,9 @@ put_head-mid-requires c =
 pub put_sources-then-requires : goal.put_sources-then-requires
 put_sources-then-requires c =
     let a = c.args in
-    let m = net_here a.net.now in
+    let m = net_here a.layout.net.now in
     let g = c.gate_at-g in
-    let placed = gate-place a.net.now a.layout.parts.count a.r a.here.gate c.requires.limited.of c.requires.here c.requires.there g.result g.ensures in
+    let placed = gate-place a.layout.net.now a.layout.parts.count a.r a.here.gate c.requires.limited.of c.requires.here c.requires.there g.result g.ensures in
     let i = c.inputs_of-inputs.ensures in
     let p = c.put_pair-head in
     let h = c.put_head-mid in
@@ -50,9 +50,9 @@ put_sources-then-requires c =
 pub returns : goal.returns
 returns c =
     let a = c.args in
-    let m = net_here a.net.now in
+    let m = net_here a.layout.net.now in
     let g = c.gate_at-g in
-    let placed = gate-place a.net.now a.layout.parts.count a.r a.here.gate c.requires.limited.of c.requires.here c.requires.there g.result g.ensures in
+    let placed = gate-place a.layout.net.now a.layout.parts.count a.r a.here.gate c.requires.limited.of c.requires.here c.requires.there g.result g.ensures in
     let i = c.inputs_of-inputs in
     let p = c.put_pair-head in
     let h = c.put_head-mid in

@@ -12,7 +12,7 @@ pub put_part-next-requires : goal.put_part-next-requires
 put_part-next-requires c =
     let a = c.args in
     let l = c.loop-r in
-    let m = net_here a.net.now in
+    let m = net_here a.layout.net.now in
     let o = c.requires.limited.of in
     let q = a.layout.parts.count - 1 in
     let s = c.requires.limited.some in
@@ -32,7 +32,7 @@ loop-r-preserved c =
     let a = c.args in
     let l = c.loop-r in
     let p = c.put_part-next in
-    let m = net_here a.net.now in
+    let m = net_here a.layout.net.now in
     let o = c.requires.limited.of in
     let t = c.loop-r-test.true in
     (omega (arith, p.ensures.2, l.invariant.0), next-written m a.layout.undriven (a.layout.parts.count - 1) a.from a.out.now l.out l.next.at l.next.before l.r a.layout.parts.count o.parts o.count t l.invariant.1 _ _ _ p.auto.out p.ensures.0 p.ensures.1 p.ensures.3)
@@ -41,7 +41,7 @@ pub returns : goal.returns
 returns c =
     let l = c.loop-r in
     let a = c.args in
-    let m = net_here a.net.now in
+    let m = net_here a.layout.net.now in
     let o = c.requires.limited.of in
     let s = c.requires.limited.some in
     let n = o.count in

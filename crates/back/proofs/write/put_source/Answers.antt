@@ -18,8 +18,8 @@ driver-requires c = record { n = c.args.layout.parts.count; of = c.requires.limi
 pub returns-in_default : goal.returns-in_default
 returns-in_default c =
     let a = c.args in
-    let d : driver (net_here a.net.now).wires a.i 65535 ≡ 65535 = sym c.driver.ensures.driver ∙ ap (λ (o : Option ℕ). unwrap_or o 65535) c.in_default.is in
-    let e = open_row a.net.now c.requires.limited.of.accepted a.layout.undriven (a.layout.parts.count - 1) a.i a.before d in
+    let d : driver (net_here a.layout.net.now).wires a.i 65535 ≡ 65535 = sym c.driver.ensures.driver ∙ ap (λ (o : Option ℕ). unwrap_or o 65535) c.in_default.is in
+    let e = open_row a.layout.net.now c.requires.limited.of.accepted a.layout.undriven (a.layout.parts.count - 1) a.i a.before d in
     (e.0, c.put.ensures ∙ ap (sets a.out.now a.at) (ap (λ (b : ℕ). 0x11 ∷ b ∷ []) c.open_binder-binder.ensures ∙ e.1))
 
 pub output_binder-requires : goal.output_binder-requires
@@ -28,13 +28,13 @@ output_binder-requires c =
     let s = l.some in
     let m = l.most in
     let n = l.of.count in
-    (omega arith, omega arith, omega (arith, c.part_before-r.ensures, before-few (net_here c.args.net.now).elements c.in-Some.d))
+    (omega arith, omega arith, omega (arith, c.part_before-r.ensures, before-few (net_here c.args.layout.net.now).elements c.in-Some.d))
 
 pub returns : goal.returns
 returns c =
     let a = c.args in
     let d = c.in-Some.ensures in
     let p = c.part_before-r in
-    let e = wired-row a.net.now c.requires.limited.of.accepted a.layout.undriven (a.layout.parts.count - 1) a.i a.before (λ h. omega (arith, d.driver, d.low)) in
-    let r : p.result ≡ part_before (net_here a.net.now).elements _ = p.ensures ∙ ap (part_before (net_here a.net.now).elements) d.driver in
+    let e = wired-row a.layout.net.now c.requires.limited.of.accepted a.layout.undriven (a.layout.parts.count - 1) a.i a.before (λ h. omega (arith, d.driver, d.low)) in
+    let r : p.result ≡ part_before (net_here a.layout.net.now).elements _ = p.ensures ∙ ap (part_before (net_here a.layout.net.now).elements) d.driver in
     (e.0, c.put-2.ensures ∙ ap (sets a.out.now a.at) (ap (λ (b : ℕ). 0x11 ∷ b ∷ []) (c.output_binder.ensures ∙ ap (λ (y : ℕ). 2 * (a.layout.parts.count - 1 - y) - 1) r) ∙ e.1))

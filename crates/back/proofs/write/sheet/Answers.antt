@@ -10,7 +10,7 @@ put_types-functions-requires c =
     let a = c.args in
     let l = c.requires.limited in
     let f = c.requires.fits in
-    let u = sheet-sum a.net.now a.layout.parts.count a.layout.undriven l in
+    let u = sheet-sum a.layout.net.now a.layout.parts.count a.layout.undriven l in
     (l.some, l.most, l.few, omega arith)
 
 pub put_functions-requires : goal.put_functions-requires
@@ -20,7 +20,7 @@ put_functions-requires c =
     let m = l.most in
     let k = l.few in
     let f = c.requires.fits in
-    let u = sheet-sum a.net.now a.layout.parts.count a.layout.undriven l in
+    let u = sheet-sum a.layout.net.now a.layout.parts.count a.layout.undriven l in
     let t = c.put_types-functions in
     let e = t.ensures.0 in
     let z = t.auto.out in
@@ -30,13 +30,13 @@ pub overflow_add-at : goal.overflow_add-at
 overflow_add-at c =
     let a = c.args in
     let f = c.requires.fits in
-    omega (arith, c.put_types-functions.ensures.0, sheet-sum a.net.now a.layout.parts.count a.layout.undriven c.requires.limited)
+    omega (arith, c.put_types-functions.ensures.0, sheet-sum a.layout.net.now a.layout.parts.count a.layout.undriven c.requires.limited)
 
 pub put-requires : goal.put-requires
 put-requires c =
     let a = c.args in
     let f = c.requires.fits in
-    let u = sheet-sum a.net.now a.layout.parts.count a.layout.undriven c.requires.limited in
+    let u = sheet-sum a.layout.net.now a.layout.parts.count a.layout.undriven c.requires.limited in
     let t = c.put_types-functions in
     let e = t.ensures.0 in
     let z = t.auto.out in
@@ -47,13 +47,13 @@ pub overflow_add-at-2 : goal.overflow_add-at-2
 overflow_add-at-2 c =
     let a = c.args in
     let f = c.requires.fits in
-    omega (arith, c.put_types-functions.ensures.0, sheet-sum a.net.now a.layout.parts.count a.layout.undriven c.requires.limited)
+    omega (arith, c.put_types-functions.ensures.0, sheet-sum a.layout.net.now a.layout.parts.count a.layout.undriven c.requires.limited)
 
 pub put_projections-requires : goal.put_projections-requires
 put_projections-requires c =
     let a = c.args in
     let f = c.requires.fits in
-    let u = sheet-sum a.net.now a.layout.parts.count a.layout.undriven c.requires.limited in
+    let u = sheet-sum a.layout.net.now a.layout.parts.count a.layout.undriven c.requires.limited in
     let t = c.put_types-functions in
     let e = t.ensures.0 in
     let z = t.auto.out in
@@ -65,19 +65,19 @@ pub overflow_add-at-3 : goal.overflow_add-at-3
 overflow_add-at-3 c =
     let a = c.args in
     let f = c.requires.fits in
-    omega (arith, c.put_types-functions.ensures.0, sheet-sum a.net.now a.layout.parts.count a.layout.undriven c.requires.limited)
+    omega (arith, c.put_types-functions.ensures.0, sheet-sum a.layout.net.now a.layout.parts.count a.layout.undriven c.requires.limited)
 
 pub overflow_add-at-4 : goal.overflow_add-at-4
 overflow_add-at-4 c =
     let a = c.args in
     let f = c.requires.fits in
-    omega (arith, c.put_types-functions.ensures.0, sheet-sum a.net.now a.layout.parts.count a.layout.undriven c.requires.limited)
+    omega (arith, c.put_types-functions.ensures.0, sheet-sum a.layout.net.now a.layout.parts.count a.layout.undriven c.requires.limited)
 
 pub put_parts-requires : goal.put_parts-requires
 put_parts-requires c =
     let a = c.args in
     let f = c.requires.fits in
-    let u = sheet-sum a.net.now a.layout.parts.count a.layout.undriven c.requires.limited in
+    let u = sheet-sum a.layout.net.now a.layout.parts.count a.layout.undriven c.requires.limited in
     let t = c.put_types-functions in
     let e = t.ensures.0 in
     let z = t.auto.out in
@@ -90,5 +90,5 @@ pub returns : goal.returns
 returns c =
     let a = c.args in
     let t = c.put_types-functions in
-    sheet-written a.net.now a.layout.parts.count a.layout.undriven c.requires.limited a.out.now _ _ _ _ _ t.result c.tuple-whole.result t.ensures.0 c.tuple-whole.ensures t.ensures.1
+    sheet-written a.layout.net.now a.layout.parts.count a.layout.undriven c.requires.limited a.out.now _ _ _ _ _ t.result c.tuple-whole.result t.ensures.0 c.tuple-whole.ensures t.ensures.1
     c.put_functions.ensures c.put.ensures c.put_projections.ensures c.put_parts.ensures

@@ -17,12 +17,12 @@ tick-requires c =
     let n = c.requires.0.pins.few in (
       runs-within i c.requires.0,
       (
-        omega (arith, ins-within _ _ i c.args.pins n, fits_next l.t c.args.ticks c.args.reads _ h f.lent),
-        omega (arith, outs-within _ _ i c.args.pins n, fits_next l.t c.args.ticks c.args.writes _ h f.room),
+        omega (arith, ins-within _ _ i c.args.counts.pins n, fits_next l.t c.args.ticks c.args.reads _ h f.lent),
+        omega (arith, outs-within _ _ i c.args.counts.pins n, fits_next l.t c.args.ticks c.args.writes _ h f.room),
       ),
     )
 
 pub loop-t-preserved : goal.loop-t-preserved
 loop-t-preserved c =
     let l = c.loop-t in
-    ran-next lane_zero (sizes c.args.settled c.args.regs c.args.pins) c.args.inputs.now c.args.reads c.args.writes l.t _ _ _ _ _ _ l.invariant c.tick.ensures
+    ran-next lane_zero (sizes c.args.counts.settled c.args.counts.regs c.args.counts.pins) c.args.inputs.now c.args.reads c.args.writes l.t _ _ _ _ _ _ l.invariant c.tick.ensures

@@ -1,6 +1,6 @@
 -- By the entry. Assumes nothing.
 use Rattle.verilog.proofs.TextRows.{no_element, left_element, one_element, wrote_none}
-use Rattle.verilog.proofs.walk.put_element.Goals as goal
+use Rattle.verilog.proofs.walk.LeanNet.put_element.Goals as goal
 
 pub returns-then-v-lt-KIND : goal.returns-then-v-lt-KIND
 returns-then-v-lt-KIND c = let a = c.args in wrote_none a.out.now _ a.at (no_element _ a.x c.if-v-lt-KIND.true)

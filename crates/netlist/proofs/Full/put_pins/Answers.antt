@@ -6,14 +6,14 @@ use Rattle.calculus.specs.Net.{pin_bytes}
 use Rattle.memory.specs.Map.{stack_at, region, terminal_of}
 use Rattle.netlist.proofs.Records.{record_more}
 use Rattle.netlist.proofs.InMemory.{pins_more, pins_first}
-use Rattle.netlist.proofs.put_pins.Goals as goal
+use Rattle.netlist.proofs.Full.put_pins.Goals as goal
 
 pub loop-i-preserved : goal.loop-i-preserved
 loop-i-preserved c =
     let a = c.args in
     let l = c.loop-i in
     let put = c.put_pin-at in
-    let w = a.work.now in
+    let w = a.self.work.now in
     let n = pins_first w stack_at l.i (omega arith) in
     let more = record_more a.out.now (pin_bytes (map terminal_of (region w stack_at l.i))) _ _ a.from l.at (omega arith) (pins_more w stack_at l.i (omega arith)) in (
       omega (arith, put.ensures.0),

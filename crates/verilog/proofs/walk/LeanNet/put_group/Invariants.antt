@@ -2,7 +2,7 @@
 use Rattle.lean.specs.Layout.{row_in}
 use Rattle.lines.specs.Wrote.{WroteText}
 use Rattle.verilog.specs.Groups.{table_at, group_line_at}
-use Rattle.verilog.proofs.walk.put_group.Given as goal
+use Rattle.verilog.proofs.walk.LeanNet.put_group.Given as goal
 
 abbrev pub invariant-loop-x : goal.invariant-loop-x
-invariant-loop-x l = WroteText l.initial.out l.from (row_in (group_line_at l.group) (table_at l.group) l.work l.x 0) l.out l.at
+invariant-loop-x l = WroteText l.initial.out l.from (row_in (group_line_at l.group) (table_at l.group) l.self.work.now l.x 0) l.out l.at
