@@ -16,7 +16,8 @@ use Rattle.sheet_theorems.specs.Laid.{Below}
 use Rattle.notation_calculus.specs.Making.{State, Found, shares, listed, arrow_of, half_of, part_type}
 use Rattle.making_memory.specs.Map.{second_at_lem}
 use Rattle.made_types.specs.Held.{kind_in, HoldsState, TypesOnly}
-use Rattle.made_types.specs.Listing.{rec_of_kind, Listable, FoundIn, ListedSays}
+use Rattle.made_types.specs.Listing.{kind_byte, rec_of_kind, Listable, FoundIn, ListedSays}
+use Rattle.made_types.specs.declared.Kind.{Kind}
 use Rattle.made_types.specs.declared.Record.{Record}
 use Rattle.made_types.proofs.Sorts.{shares_in}
 use Rattle.made_types.proofs.ListLaws.{types_same, types_on}
@@ -24,17 +25,16 @@ use Rattle.made_nodes.specs.Held.{Workable}
 use Rattle.made_nodes.specs.Forms.{EditionIn, ArrowSays, ProductSays, GateSays, PartTypeSays}
 use Rattle.made_nodes.proofs.Answers.{on-type, on-no-type}
 
-pub listable : (w : List ℕ) (k a b : ℕ) → Workable w → 2 ≤ k → k ≤ 4 → a < 256 → b < 256 → Listable w (record { kind = k; left = a; right = b })
-listable w k a b W low high l r = record { room = W.room; count = W.few; form = low; known = high; left = l; right = r }
-
--- a choice of two numbers keeps what both have
-pub chosen_range : (b : Bool) (k lo hi x y : ℕ) → k ≡ cond b x y → lo ≤ x → x ≤ hi → lo ≤ y → y ≤ hi → (lo ≤ k) × (k ≤ hi)
-chosen_range true k lo hi x y e a b c d = (omega arith, omega arith)
-chosen_range false k lo hi x y e a b c d = (omega arith, omega arith)
+pub listable : (w : List ℕ) (k : Kind) (a b : ℕ) → Workable w → 2 ≤ kind_byte k → a < 256 → b < 256 → Listable w (record { kind = k; left = a; right = b })
+listable w k a b W low l r = record { room = W.room; count = W.few; form = low; left = l; right = r }
 
 -- ---- arrows
 
-arrow_rec_lem : (b : Bool) (t to : ℕ) → rec_of_kind (cond b 3 4) t to ≡ cond b (rec03 t to) (rec04 t to)
+pub arrow-form : (b : Bool) (k : Kind) → k ≡ cond b Kind.Arrow Kind.Linear → 2 ≤ kind_byte k
+arrow-form true k e = rw e (omega arith)
+arrow-form false k e = rw e (omega arith)
+
+arrow_rec_lem : (b : Bool) (t to : ℕ) → rec_of_kind (kind_byte (cond b Kind.Arrow Kind.Linear)) t to ≡ cond b (rec03 t to) (rec04 t to)
 arrow_rec_lem true t to = refl
 arrow_rec_lem false t to = refl
 
@@ -42,12 +42,12 @@ arrow_below : (b : Bool) (n t to : ℕ) → t < n → to < n → Below n (cond b
 arrow_below true n t to h l = (h, l)
 arrow_below false n t to h l = (h, l)
 
-pub arrow_says : (w : List ℕ) (t to place k : ℕ) (x : Result ℕ Refusal) (w' : List ℕ) → k ≡ cond (leb (kind_in w t) 2) 3 4 → ListedSays w (record { kind = k; left = t; right = to }) place x w' → ArrowSays w t to place x w'
+pub arrow_says : (w : List ℕ) (t to place : ℕ) (k : Kind) (x : Result ℕ Refusal) (w' : List ℕ) → k ≡ cond (leb (kind_in w t) 2) Kind.Arrow Kind.Linear → ListedSays w (record { kind = k; left = t; right = to }) place x w' → ArrowSays w t to place x w'
 arrow_says w t to place k x w' e L = record {
   only = L.only;
   small = L.small;
   says = λ σ H h l.
-      let f : rec_of_kind k t to ≡ arrow_of σ.table t to = ap (λ (b : ℕ). rec_of_kind b t to) (e ∙ ap (λ (b : Bool). cond b 3 4) (shares_in w σ.table t H.types h)) ∙ arrow_rec_lem (shares σ.table t) t to in
+      let f : rec_of_kind (kind_byte k) t to ≡ arrow_of σ.table t to = ap (λ (b : Kind). rec_of_kind (kind_byte b) t to) (e ∙ ap (λ (b : Bool). cond b Kind.Arrow Kind.Linear) (shares_in w σ.table t H.types h)) ∙ arrow_rec_lem (shares σ.table t) t to in
       subst (λ (q : TyRec). FoundIn w' x (listed σ q place)) f
       (L.says σ H (subst (λ (q : TyRec). Below (length σ.table) q) (sym f) (arrow_below (shares σ.table t) (length σ.table) t to h l)));
 }
@@ -63,7 +63,7 @@ half_small b t r e h = rw e (half_below b 256 t h)
 
 pub product_says :
     (w : List ℕ) (a b place l r : ℕ) (x : Result ℕ Refusal) (w' : List ℕ) → l ≡ cond (leb (kind_in w a) 2) a 0 → r ≡ cond (leb (kind_in w b) 2) b 0
-    → ListedSays w (record { kind = 2; left = l; right = r }) place x w' → ProductSays w a b place x w'
+    → ListedSays w (record { kind = Kind.Product; left = l; right = r }) place x w' → ProductSays w a b place x w'
 product_says w a b place l r x w' el er L = record {
   only = L.only;
   small = L.small;
@@ -83,7 +83,7 @@ some_in w σ H = H.types.some
 
 -- the first of two types is refused, or found and the second asked for
 pub gate_refused :
-    (w : List ℕ) (place : ℕ) (x : Result ℕ Refusal) (why : Refusal) (w' : List ℕ) → x ≡ Err why → ListedSays w (record { kind = 3; left = 0; right = 0 }) place x w'
+    (w : List ℕ) (place : ℕ) (x : Result ℕ Refusal) (why : Refusal) (w' : List ℕ) → x ≡ Err why → ListedSays w (record { kind = Kind.Arrow; left = 0; right = 0 }) place x w'
     → GateSays first w place (Err why) w'
 gate_refused w place x why w' e L = record {
   only = L.only;
@@ -94,7 +94,7 @@ gate_refused w place x why w' e L = record {
 }
 
 pub paired_refused :
-    (w : List ℕ) (place : ℕ) (x : Result ℕ Refusal) (why : Refusal) (w' : List ℕ) → x ≡ Err why → ListedSays w (record { kind = 2; left = 0; right = 0 }) place x w'
+    (w : List ℕ) (place : ℕ) (x : Result ℕ Refusal) (why : Refusal) (w' : List ℕ) → x ≡ Err why → ListedSays w (record { kind = Kind.Product; left = 0; right = 0 }) place x w'
     → GateSays second w place (Err why) w'
 paired_refused w place x why w' e L = record {
   only = L.only;
@@ -105,8 +105,8 @@ paired_refused w place x why w' e L = record {
 }
 
 pub gate-found :
-    (w : List ℕ) (place k : ℕ) (x : Result ℕ Refusal) (v : List ℕ) (r : Result ℕ Refusal) (w' : List ℕ) → x ≡ Ok k → ListedSays w (record { kind = 3; left = 0; right = 0 }) place x v
-    → ListedSays v (record { kind = 3; left = 0; right = k }) place r w' → GateSays first w place r w'
+    (w : List ℕ) (place k : ℕ) (x : Result ℕ Refusal) (v : List ℕ) (r : Result ℕ Refusal) (w' : List ℕ) → x ≡ Ok k → ListedSays w (record { kind = Kind.Arrow; left = 0; right = 0 }) place x v
+    → ListedSays v (record { kind = Kind.Arrow; left = 0; right = k }) place r w' → GateSays first w place r w'
 gate-found w place k x v r w' e L M = record {
   only = types_on w v w' L.only M.only;
   small = M.small;
@@ -117,8 +117,8 @@ gate-found w place k x v r w' e L M = record {
 }
 
 pub paired-found :
-    (w : List ℕ) (place k : ℕ) (x : Result ℕ Refusal) (v : List ℕ) (r : Result ℕ Refusal) (w' : List ℕ) → x ≡ Ok k → ListedSays w (record { kind = 2; left = 0; right = 0 }) place x v
-    → ListedSays v (record { kind = 3; left = k; right = 0 }) place r w' → GateSays second w place r w'
+    (w : List ℕ) (place k : ℕ) (x : Result ℕ Refusal) (v : List ℕ) (r : Result ℕ Refusal) (w' : List ℕ) → x ≡ Ok k → ListedSays w (record { kind = Kind.Product; left = 0; right = 0 }) place x v
+    → ListedSays v (record { kind = Kind.Arrow; left = k; right = 0 }) place r w' → GateSays second w place r w'
 paired-found w place k x v r w' e L M = record {
   only = types_on w v w' L.only M.only;
   small = M.small;
@@ -135,7 +135,7 @@ small_of w r place k x w' e L = rw e at L.small
 pub part_none : (w : List ℕ) (inputs place : ℕ) → inputs ≡ 0 → PartTypeSays w inputs place (Ok 0) w
 part_none w inputs place e = rw e (record { only = types_same w; small = omega arith; says = λ E σ e H. (refl, (some_in w σ H, H)) })
 
-pub part-unary : (w : List ℕ) (inputs place : ℕ) (x : Result ℕ Refusal) (w' : List ℕ) → inputs ≡ 1 → ListedSays w (record { kind = 3; left = 0; right = 0 }) place x w' → PartTypeSays w inputs place x w'
+pub part-unary : (w : List ℕ) (inputs place : ℕ) (x : Result ℕ Refusal) (w' : List ℕ) → inputs ≡ 1 → ListedSays w (record { kind = Kind.Arrow; left = 0; right = 0 }) place x w' → PartTypeSays w inputs place x w'
 part-unary w inputs place x w' e L = rw e (record { only = L.only; small = L.small; says = λ E σ d H. let z = some_in w σ H in L.says σ H (z, z) })
 
 more-inputs : (E : Edition) (inputs place : ℕ) (σ : State) → (inputs ≡ 0 → ⊥) → (inputs ≡ 1 → ⊥) → part_type E 2 σ place ≡ part_type E inputs σ place

@@ -5,7 +5,7 @@ ghost use Rattle.made_nodes.specs.Forms.{ArrowSays, FunctionSays, FunctionsSay, 
 
 use crate::Sub;
 use answers::Refusal;
-use made_types::Record;
+use made_types::{Kind, Record};
 use making_memory::{SCOPE, SECOND};
 
 // The arrow from a type, of that type's sort.
@@ -13,7 +13,7 @@ fn arrow(work: &mut [u16], t: u16, to: u16, place: u16) -> Result<u16, Refusal>
     requires { (Workable work.old) × ((t < 256) × (to < 256)) }
     ensures { ArrowSays work.old t to place result work.new }
 {
-    let kind = crate::by_sort(work, t, 3, 4);
+    let kind = crate::by_sort(work, t, Kind::Arrow, Kind::Linear);
     let r = Record {
         kind,
         left: t,

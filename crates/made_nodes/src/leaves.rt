@@ -6,7 +6,7 @@ ghost use Rattle.made_nodes.specs.Forms.{VariableSays, GateSays, PartTypeSays, P
 
 use crate::{Node, Sub};
 use answers::Refusal;
-use made_types::Record;
+use made_types::{Kind, Record};
 use making_memory::SECOND;
 
 // A variable of a type, by its number.
@@ -31,13 +31,13 @@ fn gate_type(work: &mut [u16], place: u16) -> Result<u16, Refusal>
     ensures { GateSays first work.old place result work.new }
 {
     let unary = Record {
-        kind: 3,
+        kind: Kind::Arrow,
         left: 0,
         right: 0,
     };
     let t = made_types::listed(work, unary, place)?;
     let gate = Record {
-        kind: 3,
+        kind: Kind::Arrow,
         left: 0,
         right: t,
     };
@@ -50,13 +50,13 @@ fn paired_type(work: &mut [u16], place: u16) -> Result<u16, Refusal>
     ensures { GateSays second work.old place result work.new }
 {
     let pair = Record {
-        kind: 2,
+        kind: Kind::Product,
         left: 0,
         right: 0,
     };
     let t = made_types::listed(work, pair, place)?;
     let gate = Record {
-        kind: 3,
+        kind: Kind::Arrow,
         left: t,
         right: 0,
     };
@@ -72,7 +72,7 @@ fn part_type(work: &mut [u16], inputs: u8, place: u16) -> Result<u16, Refusal>
     }
     if inputs == 1 {
         let unary = Record {
-            kind: 3,
+            kind: Kind::Arrow,
             left: 0,
             right: 0,
         };

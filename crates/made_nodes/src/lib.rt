@@ -25,6 +25,8 @@ pub struct Sub {
 }
 
 // A node to be: its kind, its first body byte, its subterms, and the offset of its word.
+// The kind is a number here and in `under` and `over`: of every number they promise what is written at most (`only` and `small` of `NodeSays`,
+// `UnderSays` and `OverSays`), and an enum would take fewer.
 #[derive(Clone, Copy, Debug, PartialEq, Eq)]
 pub struct Node {
     pub kind: u16,
@@ -34,8 +36,8 @@ pub struct Node {
     pub place: u16,
 }
 
-// One of two numbers, by the sort of a type.
-pub fn by_sort(work: &[u16], t: u16, sharable: u16, linear: u16) -> u16
+// One of two, by the sort of a type.
+pub fn by_sort<T: Copy>(work: &[u16], t: u16, sharable: T, linear: T) -> T
     requires { InTypes work.now t }
     ensures { result ≡ cond (leb (kind_in work.now t) 2) sharable linear }
 {
@@ -78,7 +80,8 @@ pub fn add(work: &mut [u16], n: Node, ty: u16, below: u16) -> Result<Sub, Refusa
     })
 }
 
-// A node over one term.
+// A node over one term. `under`, `over` and the functions of binders, leaves and pairs take the place, types and terms one by one: each stores only
+// some of them in its node, and a struct of them would be unpacked in each.
 pub fn under(
     work: &mut [u16],
     kind: u16,

@@ -5,7 +5,7 @@ ghost use Rattle.made_nodes.specs.Forms.{ProductSays, PairSays, AppliedSays};
 
 use crate::Sub;
 use answers::Refusal;
-use made_types::Record;
+use made_types::{Kind, Record};
 
 // The product of two types. A half that is not sharable counts as the single bit, and the sheet is refused at this node.
 fn product(work: &mut [u16], a: u16, b: u16, place: u16) -> Result<u16, Refusal>
@@ -15,7 +15,7 @@ fn product(work: &mut [u16], a: u16, b: u16, place: u16) -> Result<u16, Refusal>
     let left = crate::by_sort(work, a, a, 0);
     let right = crate::by_sort(work, b, b, 0);
     let r = Record {
-        kind: 2,
+        kind: Kind::Product,
         left,
         right,
     };

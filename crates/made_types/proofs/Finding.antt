@@ -13,9 +13,9 @@ use Rattle.calculus.specs.Read.{repeated}
 use Rattle.sheet_theorems.specs.Laid.{Below}
 use Rattle.notation_calculus.specs.Making.{number_in}
 use Rattle.made_types.specs.Held.{kind_number, left_number, right_number, HoldsTypes}
-use Rattle.made_types.specs.Listing.{rec_of_kind, record_of_lem, same_in_lem, Searched, Listable}
+use Rattle.made_types.specs.Listing.{kind_byte, rec_of_kind, record_of_lem, same_in_lem, Searched, Listable}
 use Rattle.made_types.specs.declared.Record.{Record}
-use Rattle.made_types.proofs.Sorts.{by_form}
+use Rattle.made_types.proofs.Sorts.{by_form, kind_known}
 
 abbrev SameNumbers : TyRec → ℕ → ℕ → ℕ → Type 0
 SameNumbers q a b k = (eqb (kind_number q) k && (eqb (left_number q) a && eqb (right_number q) b)) ≡ rec_eq q (rec_of_kind k a b)
@@ -41,7 +41,7 @@ same_04 (rec04 x y) a b = refl
 same_in : (w : List ℕ) (Θ : Table) (t : ℕ) (r : Record) → HoldsTypes w Θ → t < length Θ → Listable w r → same_in_lem w t r ≡ rec_eq (rec_at Θ t) (record_of_lem r)
 same_in w Θ t r H h L =
     rw (H.kinds t h, H.lefts t h, H.rights t h)
-    (by_form (SameNumbers (rec_at Θ t) r.left r.right) (same_02 (rec_at Θ t) r.left r.right) (same_03 (rec_at Θ t) r.left r.right) (same_04 (rec_at Θ t) r.left r.right) r.kind L.form L.known)
+    (by_form (SameNumbers (rec_at Θ t) r.left r.right) (same_02 (rec_at Θ t) r.left r.right) (same_03 (rec_at Θ t) r.left r.right) (same_04 (rec_at Θ t) r.left r.right) (kind_byte r.kind) L.form (kind_known r.kind))
 
 -- ---- in a table
 
@@ -95,7 +95,7 @@ module _ (w : List ℕ) (Θ : Table) (r : Record) (k : ℕ) (H : HoldsTypes w Θ
   -- none before it
   none_before : (j : ℕ) → j < length Θ → j < k → rec_eq (rec_at Θ j) (record_of_lem r) ≡ false
   none_before j l h = elim (dec_le j r.right) [
-    | yes g ↦ behind-right j (rec_at Θ j) r.kind r.left r.right L.form L.known (H.ok.earlier j l) g
+    | yes g ↦ behind-right j (rec_at Θ j) (kind_byte r.kind) r.left r.right L.form (kind_known r.kind) (H.ok.earlier j l) g
     | no g ↦ sym (same_in w Θ j r H l L) ∙ S.before j (omega arith) h
   ]
 

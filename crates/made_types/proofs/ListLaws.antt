@@ -18,9 +18,9 @@ use Rattle.notation_theorems.proofs.Answering.{on_good}
 use Rattle.notation_theorems.proofs.Growing.{Ready, Listed, listed-holds}
 use Rattle.making_memory.specs.Map.{type_count_at, node_count_at, put_count_at}
 use Rattle.made_types.specs.Held.{kind_number, left_number, right_number, bits_in_lem, HoldsTypes, HoldsState, TypesOnly}
-use Rattle.made_types.specs.Listing.{rec_of_kind, record_of_lem, formed_in, Searched, Listable, ListedSays}
+use Rattle.made_types.specs.Listing.{kind_byte, rec_of_kind, record_of_lem, formed_in, Searched, Listable, ListedSays}
 use Rattle.made_types.specs.declared.Record.{Record}
-use Rattle.made_types.proofs.Sorts.{by_form, ready_of, formed_in_lem}
+use Rattle.made_types.proofs.Sorts.{by_form, kind_known, ready_of, formed_in_lem}
 use Rattle.made_types.proofs.Finding.{found_old, found_new}
 use Rattle.made_types.proofs.Growth.{stored, stored_only, stored-above, holds-stored}
 
@@ -64,8 +64,8 @@ size_of_form Θ k a b low high = by_form (λ (n : ℕ). size (ty_of (tys_from []
 
 bits_in : (w : List ℕ) (Θ : Table) (r : Record) → HoldsTypes w Θ → Listable w r → Below (length Θ) (record_of_lem r) → bits_in_lem w r.left + bits_in_lem w r.right ≡ size (ty_of (tys_from [] Θ) (record_of_lem r))
 bits_in w Θ r H L B =
-    let (a, b) = sides-below (length Θ) r.kind r.left r.right L.form L.known B in
-    rw (H.sizes r.left a, H.sizes r.right b) (sym (size_of_form Θ r.kind r.left r.right L.form L.known))
+    let (a, b) = sides-below (length Θ) (kind_byte r.kind) r.left r.right L.form (kind_known r.kind) B in
+    rw (H.sizes r.left a, H.sizes r.right b) (sym (size_of_form Θ (kind_byte r.kind) r.left r.right L.form (kind_known r.kind)))
 
 -- ---- the memory
 
@@ -100,10 +100,10 @@ module _ (w : List ℕ) (r : Record) (place : ℕ) (k : ℕ) (L : Listable w r) 
   New σ = (k ≡ length σ.table) × (repeated σ.table (record_of_lem r) ≡ false)
 
   new-one : get_or w type_count_at 0 ≤ k → (σ : State) → HoldsState w σ → Below (length σ.table) (record_of_lem r) → New σ
-  new-one h σ H B = found_new w σ.table r k H.types L S (sides-below (length σ.table) r.kind r.left r.right L.form L.known B).1 (let c = H.types.count in omega arith)
+  new-one h σ H B = found_new w σ.table r k H.types L S (sides-below (length σ.table) (kind_byte r.kind) r.left r.right L.form (kind_known r.kind) B).1 (let c = H.types.count in omega arith)
 
   formed-one : (σ : State) → HoldsState w σ → Below (length σ.table) (record_of_lem r) → formed_in w r ≡ formed σ.table (record_of_lem r)
-  formed-one σ H B = formed_in_lem w σ.table H.types r.kind r.left r.right L.form L.known B
+  formed-one σ H B = formed_in_lem w σ.table H.types (kind_byte r.kind) r.left r.right L.form (kind_known r.kind) B
 
   pub says_bad : get_or w type_count_at 0 ≤ k → formed_in w r ≡ false → ListedSays w r place (Err (refusal_at Reason.WrongSide place)) w
   says_bad h f = record {
@@ -127,22 +127,22 @@ module _ (w : List ℕ) (r : Record) (place : ℕ) (k : ℕ) (L : Listable w r) 
       says = λ σ H B. rw (is-full σ (record_of_lem r) place (new-one h σ H B).1 (sym (formed-one σ H B) ∙ f) (omega (arith, bits_in w σ.table r H.types L B)) (omega (arith, (new-one h σ H B).0))) refl;
     }
 
-    new-state : (σ : State) → HoldsState w σ → Below (length σ.table) (record_of_lem r) → k < 256 → Ready (σ.table ++ record_of_lem r ∷ []) → HoldsState (stored w k r.kind r.left r.right (bits_in_lem w r.left + bits_in_lem w r.right)) (with_type σ (record_of_lem r))
+    new-state : (σ : State) → HoldsState w σ → Below (length σ.table) (record_of_lem r) → k < 256 → Ready (σ.table ++ record_of_lem r ∷ []) → HoldsState (stored w k (kind_byte r.kind) r.left r.right (bits_in_lem w r.left + bits_in_lem w r.right)) (with_type σ (record_of_lem r))
     new-state σ H B m R =
         let (e, n) = new-one h σ H B in
-        let (a, (b, c)) = kind_of_form r.kind r.left r.right L.form L.known in
+        let (a, (b, c)) = kind_of_form (kind_byte r.kind) r.left r.right L.form (kind_known r.kind) in
         let bits : ℕ = bits_in_lem w r.left + bits_in_lem w r.right in
-        let above = stored-above w k r.kind r.left r.right bits L.room m in
+        let above = stored-above w k (kind_byte r.kind) r.left r.right bits L.room m in
         record {
-          types = holds-stored w σ.table (record_of_lem r) k r.kind r.left r.right bits H.types e a b c m R (bits_in w σ.table r H.types L B);
+          types = holds-stored w σ.table (record_of_lem r) k (kind_byte r.kind) r.left r.right bits H.types e a b c m R (bits_in w σ.table r H.types L B);
           nodes = above node_count_at (omega arith) (λ z. omega arith) ∙ H.nodes;
           few = H.few;
           puts = above put_count_at (omega arith) (λ z. omega arith) ∙ H.puts;
         }
 
-    pub says-new : k < 256 → ListedSays w r place (Ok k) (stored w k r.kind r.left r.right (bits_in_lem w r.left + bits_in_lem w r.right))
+    pub says-new : k < 256 → ListedSays w r place (Ok k) (stored w k (kind_byte r.kind) r.left r.right (bits_in_lem w r.left + bits_in_lem w r.right))
     says-new m = record {
-      only = stored_only w k r.kind r.left r.right (bits_in_lem w r.left + bits_in_lem w r.right) L.room m h;
+      only = stored_only w k (kind_byte r.kind) r.left r.right (bits_in_lem w r.left + bits_in_lem w r.right) L.room m h;
       small = m;
       says = λ σ H B.
           let (e, n) = new-one h σ H B in

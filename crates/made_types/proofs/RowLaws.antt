@@ -11,6 +11,7 @@ use Rattle.calculus.specs.Types.{rec02}
 use Rattle.notation_calculus.specs.Making.{State, Found, listed, more_bits}
 use Rattle.making_memory.specs.Map.{type_count_at, making_size}
 use Rattle.made_types.specs.Held.{HoldsState, TypesOnly}
+use Rattle.made_types.specs.declared.Kind.{Kind}
 use Rattle.made_types.specs.Listing.{Listable, FoundIn, SmallType, ListedSays, RowSays}
 use Rattle.made_types.proofs.ListLaws.{types_same, types_on}
 
@@ -42,8 +43,8 @@ module _ (w₀ : List ℕ) (more place : ℕ) where
       }
 
   module _ (w : List ℕ) (t i : ℕ) (R : RowTo w₀ more place w t i) where
-    pub row-can : making_size ≤ length w₀ → get_or w₀ type_count_at 0 ≤ 256 → Listable w (record { kind = 2; left = 0; right = t })
-    row-can room few = record { room = omega (arith, R.only.same); count = R.only.few few; form = omega arith; known = omega arith; left = omega arith; right = R.small }
+    pub row-can : making_size ≤ length w₀ → get_or w₀ type_count_at 0 ≤ 256 → Listable w (record { kind = Kind.Product; left = 0; right = t })
+    row-can room few = record { room = omega (arith, R.only.same); count = R.only.few few; form = omega arith; left = omega arith; right = R.small }
 
     pub row_done : more ≤ i → RowSays w₀ more place (Ok t) w
     row_done h =
@@ -54,7 +55,7 @@ module _ (w₀ : List ℕ) (more place : ℕ) where
           says = λ σ H. let A = R.says σ H in subst (FoundIn w (Ok t)) (sym (A.is ∙ ap (λ (n : ℕ). more_bits place n A.row) e)) (A.type, (A.known, A.holds));
         }
 
-    module _ (h : i < more) (x : Result ℕ Refusal) (w' : List ℕ) (L : ListedSays w (record { kind = 2; left = 0; right = t }) place x w') where
+    module _ (h : i < more) (x : Result ℕ Refusal) (w' : List ℕ) (L : ListedSays w (record { kind = Kind.Product; left = 0; right = t }) place x w') where
       -- what is answered, where what is listed next is known
       listed_next : (m₀ : Answer Found) (A : Comes w t place (more - i) m₀) (m : Answer Found) → listed A.row.state (rec02 0 t) place ≡ m → m₀ ≡ (m >>= λ y. more_bits place (more - (i + 1)) y)
       listed_next m₀ A m e =

@@ -14,7 +14,8 @@ use Rattle.notation_calculus.specs.Making.{is_sharable, shares, halves_of}
 use Rattle.notation_theorems.proofs.Growing.{Ready}
 use Rattle.notation_theorems.proofs.NodesMean.{shares-is}
 use Rattle.made_types.specs.Held.{kind_number, left_number, right_number, kind_in, left_in_lem, right_in, HoldsTypes}
-use Rattle.made_types.specs.Listing.{rec_of_kind}
+use Rattle.made_types.specs.Listing.{kind_byte, rec_of_kind}
+use Rattle.made_types.specs.declared.Kind.{Kind}
 
 -- the three forms
 pub by_form : (P : ℕ → Type 0) → P 2 → P 3 → P 4 → (k : ℕ) → 2 ≤ k → k ≤ 4 → P k
@@ -23,6 +24,12 @@ by_form P p₂ p₃ p₄ k low high =
       | yes e ↦ rw e p₂
       | no d ↦ elim (ℕ_discrete k 3) [ yes e ↦ rw e p₃ | no f ↦ let e : k ≡ 4 = omega arith in rw e p₄ ]
     ]
+
+pub kind_known : (k : Kind) → kind_byte k ≤ 4
+kind_known Kind.Bit = omega arith
+kind_known Kind.Product = omega arith
+kind_known Kind.Arrow = omega arith
+kind_known Kind.Linear = omega arith
 
 pub ready_of : {w : List ℕ} {Θ : Table} → HoldsTypes w Θ → Ready Θ
 ready_of H = record { ok = H.ok; one = H.one; some = H.some }

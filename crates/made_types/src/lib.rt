@@ -5,24 +5,35 @@ ghost use Rattle.std.specs.Prelude.{◌≡◌, cond, ◌∷◌, [], ◌+◌, ◌
 ghost use Rattle.std.proofs.lemmas.List.Edits.{sets};
 ghost use Rattle.making_memory.specs.Map.{types_at, type_count_at, making_size};
 ghost use Rattle.made_types.specs.Held.{kind_in, left_in_lem, right_in, bits_in_lem};
-ghost use Rattle.made_types.specs.Listing.{InTypes, Searched, same_in_lem, formed_in, Listable, ListedSays, RowSays};
+ghost use Rattle.made_types.specs.Listing.{kind_byte, InTypes, Searched, same_in_lem, formed_in, Listable, ListedSays, RowSays};
 ghost use Rattle.made_types.specs.States.{Begun, Forgot};
 
 use answers::{Reason, Refusal};
 use making_memory::{MOST_TYPES, NODE_COUNT, PUT_COUNT, TYPE_COUNT, TYPES};
 
-// A product, an arrow or a linear arrow: kinds 2 to 4, and the sides' numbers.
+// The kinds of types, with the sheet's numbers for them.
 #[derive(Clone, Copy, Debug, PartialEq, Eq)]
-pub struct Record {
-    pub kind: u16,
-    pub left: u16,
-    pub right: u16,
+pub enum Kind {
+    Bit = 1,
+    Product = 2,
+    Arrow = 3,
+    Linear = 4,
 }
 
-pub fn wide(x: u16) -> usize
-    ensures { result ≡ x }
-{
-    x as usize
+impl Kind {
+    pub fn number(self) -> u16
+        ensures { result ≡ kind_byte self }
+    {
+        self as u16
+    }
+}
+
+// A type's kind and its sides' numbers.
+#[derive(Clone, Copy, Debug, PartialEq, Eq)]
+pub struct Record {
+    pub kind: Kind,
+    pub left: u16,
+    pub right: u16,
 }
 
 pub fn kind_of(work: &[u16], t: u16) -> u16
@@ -86,7 +97,9 @@ fn same(work: &[u16], t: u16, r: Record) -> bool
     requires { InTypes work.now t }
     ensures { result ≡ same_in_lem work.now t r }
 {
-    kind_of(work, t) == r.kind && left_of(work, t) == r.left && right_of(work, t) == r.right
+    kind_of(work, t) == r.kind.number()
+        && left_of(work, t) == r.left
+        && right_of(work, t) == r.right
 }
 
 // Where a record stands in the table, or where it would come. It stands behind its sides: so all products of a row are found in one pass.
@@ -110,18 +123,18 @@ fn formed(work: &[u16], r: Record) -> bool
 {
     let left = shares(work, r.left);
     match r.kind {
-        2 => left && shares(work, r.right),
-        3 => left,
-        _ => !left,
+        Kind::Product => left && shares(work, r.right),
+        Kind::Arrow => left,
+        Kind::Bit | Kind::Linear => !left,
     }
 }
 
 fn store(work: &mut [u16], k: u16, r: Record, bits: u16)
     requires { InTypes work.old k }
-    ensures { work.new ≡ set (sets work.old (types_at + 4 * k) (r.kind ∷ r.left ∷ r.right ∷ bits ∷ [])) type_count_at (k + 1) }
+    ensures { work.new ≡ set (sets work.old (types_at + 4 * k) (kind_byte r.kind ∷ r.left ∷ r.right ∷ bits ∷ [])) type_count_at (k + 1) }
 {
     let at = TYPES + 4 * (k as usize);
-    work[at] = r.kind;
+    work[at] = r.kind.number();
     work[at + 1] = r.left;
     work[at + 2] = r.right;
     work[at + 3] = bits;
@@ -159,7 +172,7 @@ pub fn row(work: &mut [u16], more: usize, place: u16) -> Result<u16, Refusal>
     let mut t: u16 = 0;
     for _ in 0..more {
         let r = Record {
-            kind: 2,
+            kind: Kind::Product,
             left: 0,
             right: t,
         };
@@ -174,7 +187,7 @@ pub fn begin(work: &mut [u16])
     ensures { Begun work.old work.new }
 {
     let bit = Record {
-        kind: 1,
+        kind: Kind::Bit,
         left: 0,
         right: 0,
     };

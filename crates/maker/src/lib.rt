@@ -13,7 +13,7 @@ ghost use Rattle.maker.specs.Made.{CanEnd, MainMade, BehindMade, CanText, TextMa
 use answers::{Reason, Refusal};
 use made_nodes::Sub;
 
-// `main`, put in at the text's end.
+// `main`, put in at the text's end. The steps down to `text_term` hand on the text's end, and each drops what the one above it has used.
 fn main_term(text: &[u8], work: &mut [u16], end: usize) -> Result<Sub, Refusal>
     requires { CanEnd text.now work.old end }
     ensures { MainMade text.now work.old end result work.new }
@@ -79,7 +79,7 @@ fn run(text: &[u8], out: &mut [u8], places: &mut [u16], work: &mut [u16]) -> Res
         return Err(Reason::LittleMemory.at(0));
     }
     let s = made(text, work)?;
-    written(work, out, places, made_types::wide(s.node))
+    written(work, out, places, usize::from(s.node))
 }
 
 // The sheet of a text is written to the start of the output, and the place in the text that each node came from to the start of `places`; or

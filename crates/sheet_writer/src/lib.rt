@@ -36,7 +36,8 @@ fn types_length(work: &[u16], n: usize) -> usize
     total
 }
 
-// A type's record at an offset. Behind it.
+// A type's record at an offset. Behind it. `write_type`, `write_record` and `write_term` take the memory, the output and the offset one by one: a
+// struct of them would have to hold the places too, which only `write_term` writes.
 fn write_type(work: &[u16], out: &mut [u8], t: usize, at: usize) -> usize
     requires { (making_size ≤ length work.now) × ((t < 256) × ((TypeLow work.now t) × (at + length (type_bytes work.now t) ≤ length out.old))) }
     ensures { (result ≡ at + length (type_bytes work.now t)) × (out.new ≡ sets out.old at (type_bytes work.now t)) }
@@ -65,6 +66,8 @@ fn write_types(work: &[u16], out: &mut [u8], n: usize, from: usize) -> usize
 
 // ---- nodes
 
+// The kind is the memory's number here and in `subterms`, not an enum: both say of every number what the definitions `body_bytes` and
+// `subterm_count` do, and `TermStands` asks nothing of the kinds of other nodes.
 fn body_bytes(kind: u16) -> usize
     ensures { result ≡ body_bytes kind }
 {

@@ -17,7 +17,8 @@ use Rattle.made_nodes.specs.declared.Sub.{Sub}
 use Rattle.made_nodes.proofs.Terms.{made-same, made_on, held_on, workable_on}
 use Rattle.made_nodes.proofs.Answers.{on-term, on-no-term}
 use Rattle.term_parts.specs.declared.halves.Half.{Half}
-use Rattle.term_parts.specs.Halves.{half_in, sub_of, HalvesIn, CanJoin, JoinSays}
+use Rattle.term_parts.specs.declared.joined.Joint.{Joint}
+use Rattle.term_parts.specs.Halves.{half_in, sub_of, HalvesIn, CanJoin, JoinSays, OneJoined, JoinedSay}
 use Rattle.term_parts.proofs.Stay.{half_same, halves-stay}
 
 -- `join` takes the first of the list by `one`, and goes on with what comes of it
@@ -140,3 +141,41 @@ pair_one w place a f r w' P = record { only = P.only; small = P.small; says = λ
 
 pub projection_one : (w : List ℕ) (place : ℕ) (a f : Sub) (r : Result Sub Refusal) (w' : List ℕ) → ProjectionSays w place a f r w' → OneSays taken_made taken_place projections one_projection (λ m. refl) (λ x xs m. refl) w place a f r w'
 projection_one w place a f r w' P = record { only = P.only; small = P.small; says = λ x m e H T U. subst (λ (p : ℕ). MadeIn w' r (over p proj m.type x.pair m m.state)) (sym e) (P.says x.pair m H T U) }
+
+-- ---- by what joins them
+
+abbrev pub Waits : Joint → Type 0
+Waits Joint.Pair = Element
+Waits Joint.Projection = Taken
+
+abbrev pub made_by : (j : Joint) → Waits j → Made
+made_by Joint.Pair = element_made
+made_by Joint.Projection = taken_made
+
+abbrev pub place_by : (j : Joint) → Waits j → ℕ
+place_by Joint.Pair = element_comma
+place_by Joint.Projection = taken_place
+
+abbrev pub join_by : (j : Joint) → List (Waits j) → Made → Answer Made
+join_by Joint.Pair = pairs_of
+join_by Joint.Projection = projections
+
+abbrev pub one_by : (j : Joint) → Waits j → Made → Answer Made
+one_by Joint.Pair = one_pair
+one_by Joint.Projection = one_projection
+
+pub none_by : (j : Joint) (m : Made) → join_by j [] m ≡ good m
+none_by Joint.Pair m = refl
+none_by Joint.Projection m = refl
+
+pub more_by : (j : Joint) (x : Waits j) (xs : List (Waits j)) (m : Made) → join_by j (x ∷ xs) m ≡ (one_by j x m >>= λ p. join_by j xs p)
+more_by Joint.Pair x xs m = refl
+more_by Joint.Projection x xs m = refl
+
+pub one_joined : (j : Joint) (w : List ℕ) (place : ℕ) (a f : Sub) (r : Result Sub Refusal) (w' : List ℕ) → OneJoined j w place a f r w' → OneSays (made_by j) (place_by j) (join_by j) (one_by j) (none_by j) (more_by j) w place a f r w'
+one_joined Joint.Pair w place a f r w' P = let O = pair_one w place a f r w' P in record { only = O.only; small = O.small; says = O.says }
+one_joined Joint.Projection w place a f r w' P = let O = projection_one w place a f r w' P in record { only = O.only; small = O.small; says = O.says }
+
+pub joined_says : (j : Joint) (w : List ℕ) (from count : ℕ) (e : Sub) (r : Result Sub Refusal) (w' : List ℕ) → JoinSays (made_by j) (place_by j) (join_by j) w from count e r w' → JoinedSay j w from count e r w'
+joined_says Joint.Pair w from count e r w' J = J
+joined_says Joint.Projection w from count e r w' J = J

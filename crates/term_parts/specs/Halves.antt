@@ -9,9 +9,11 @@ use Rattle.notation_machine.specs.TermMachine.{Element, Taken, pairs_of, project
 use Rattle.making_memory.specs.Map.{halves_at, making_size}
 use Rattle.made_types.specs.Held.{HoldsState}
 use Rattle.made_nodes.specs.Held.{TermHeld, MadeIn, SmallMade, MadeOnly, Workable}
+use Rattle.made_nodes.specs.Forms.{PairSays, ProjectionSays}
 use Rattle.made_nodes.specs.declared.Sub.{Sub}
 use Rattle.walks.specs.Walked.{TermsWalked}
 use Rattle.term_parts.specs.declared.halves.Half.{Half}
+use Rattle.term_parts.specs.declared.joined.Joint.{Joint}
 
 abbrev pub most_halves : ℕ
 most_halves = 2048
@@ -70,3 +72,12 @@ PairsSay w from count e r w' = JoinSays (λ (a : Element). a.made) (λ (a : Elem
 
 abbrev pub ProjectionsSay : List ℕ → ℕ → ℕ → Sub → Result Sub Refusal → List ℕ → Type 0
 ProjectionsSay w from count e r w' = JoinSays (λ (p : Taken). p.pair) (λ (p : Taken). p.place) projections w from count e r w'
+
+-- by what joins them: one of them, and all
+abbrev pub OneJoined : Joint → List ℕ → ℕ → Sub → Sub → Result Sub Refusal → List ℕ → Type 0
+OneJoined Joint.Pair w place a f r w' = PairSays w place a f r w'
+OneJoined Joint.Projection w place a f r w' = ProjectionSays w place a f r w'
+
+abbrev pub JoinedSay : Joint → List ℕ → ℕ → ℕ → Sub → Result Sub Refusal → List ℕ → Type 0
+JoinedSay Joint.Pair w from count e r w' = PairsSay w from count e r w'
+JoinedSay Joint.Projection w from count e r w' = ProjectionsSay w from count e r w'

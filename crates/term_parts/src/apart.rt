@@ -15,7 +15,8 @@ pub struct ApartEnd {
     pub waiting: usize,
 }
 
-// A pair's halves are bound to the names at two places, and the pair waits with the first of them.
+// A pair's halves are bound to the names at two places, and the pair waits with the first of them. The functions down to `apart` take the offset, the
+// entry, the half and the pair one by one: all four change from one name to the next, so that a struct of them would be made anew for each call.
 fn take(work: &mut [u16], entry: usize, half: usize, place: usize, other: usize, v: Sub)
     requires { CanTake work.old entry half place other v }
     ensures { TakeSays work.old entry half place other v work.new }

@@ -11,7 +11,7 @@ pub fn bind_name(work: &mut [u16], top: usize, place: usize, ty: u16)
     requires { (top < most_entries) × ((making_size ≤ length work.old) × (place < 65536)) }
     ensures { NameBound work.old top place ty work.new }
 {
-    entries::bind(work, top, place, made_types::wide(ty));
+    entries::bind(work, top, place, usize::from(ty));
 }
 
 // The names of `fun` at an offset, each bound with one type.

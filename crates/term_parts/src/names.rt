@@ -63,7 +63,8 @@ pub fn count_names(text: &[u8], at: usize) -> Result<NamesEnd, Refusal>
     }
 }
 
-// How many lists are open behind a word that ends at an offset.
+// How many lists are open behind a word that ends at an offset. The kind is a word's, here and in `listed`: `words::Word` has it as a number, of which
+// the definitions `deeper_by` and `listed_code` speak.
 fn deeper(kind: u8, deep: usize, end: usize) -> usize
     requires { (0 < deep) × (deep < end) }
     ensures { result ≡ deeper_by kind deep }

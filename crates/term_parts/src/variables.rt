@@ -1,5 +1,4 @@
 // Variables looked up by their names, or by the places of their lists.
-ghost use Rattle.std.specs.Prelude.{◌≡◌, ◌<◌};
 ghost use Rattle.term_parts.specs.Parts.{CanLook, LookSays, CanLookAt, LookAtSays};
 
 use scopes::{entries, frames};
@@ -9,13 +8,6 @@ use scopes::{entries, frames};
 pub struct Look {
     pub number: u16,
     pub ty: u16,
-}
-
-fn narrow(x: usize) -> u16
-    requires { x < 65536 }
-    ensures { result ≡ x }
-{
-    x as u16
 }
 
 // The nearest variable of the name at a place.
@@ -30,8 +22,8 @@ pub fn variable_at(text: &[u8], work: &[u16], name: usize, frame: usize, top: us
     }
     let v = entries::value_of(work, e - 1);
     Some(Look {
-        number: narrow(top - e),
-        ty: narrow(v),
+        number: (top - e) as u16,
+        ty: v as u16,
     })
 }
 
@@ -47,7 +39,7 @@ pub fn list_at(work: &[u16], place: usize, frame: usize, top: usize) -> Option<L
     }
     let v = entries::value_of(work, e - 1);
     Some(Look {
-        number: narrow(top - e),
-        ty: narrow(v),
+        number: (top - e) as u16,
+        ty: v as u16,
     })
 }

@@ -53,7 +53,7 @@ use Rattle.term_walk.specs.Steps.{done_step, part_level, CanAskTerm, Asks, CanEn
 use Rattle.term_parts.proofs.LookFor.{looked_here, looked_nowhere, looked_typed}
 use Rattle.term_walk.proofs.LookLaws.{words-lexed}
 use Rattle.term_walk.proofs.HoldLaws.{stepped_none, stepped_then, stepped_types, stepped_made, left_stays, here_stays, here-now, levels_within}
-use Rattle.term_walk.proofs.StepLaws.{done_says, stepped_asks, asked}
+use Rattle.term_walk.proofs.StepLaws.{left_again, done_says, stepped_asks, asked}
 
 -- ---- refusals pass
 
@@ -125,7 +125,7 @@ module _ (text w : List ℕ) (h : Walk) (s : Left) (name at types : ℕ) (wait :
           let g₁ = here_stays text X most bottom w w₁ h S σ K g st y.state i.walkable.state in
           let l₁ = left_stays h.more h.top h.waiting w w₁ st s p l in
           subst (λ (us : List Word). StepAnswers text X most bottom w' r (good (ask_term (term_here_with k S K) (of_definition p y.rest) y.scope y.state us))) (words-lexed text q.body i.body.lexed ∙ sym i.body.is) (
-          asked text X most bottom w₁ h S y.state K k c g₁ (part_level 8 s 0 q.end) (of_definition p y.rest) (h.more - 1) q.top h.waiting q.body y.scope (refl, record { place = l₁.place; function = l₁.function }, i.rest.is, i.rest.lexed) (record { walkable = i.walkable; above = omega (arith, c); variables = i.variables }) (omega (arith, o, g.scope.walkable.scope.entries, i.walkable.scope.entries)) (omega arith) g₁.few (λ _. i.body.lexed) r w' A)
+          asked text X most bottom w₁ h S y.state K k c g₁ (part_level 8 s 0 q.end) (of_definition p y.rest) (h.more - 1) q.top h.waiting q.body y.scope (refl, left_again w₁ s p 8 0 q.end l₁, i.rest.is, i.rest.lexed) (record { walkable = i.walkable; above = omega (arith, c); variables = i.variables }) (omega (arith, o, g.scope.walkable.scope.entries, i.walkable.scope.entries)) (omega arith) g₁.few (λ _. i.body.lexed) r w' A)
 
 -- ---- type arguments first
 
@@ -335,7 +335,7 @@ module _ (text w : List ℕ) (h : Walk) (s : Left) (v : code-word.Word) (looks :
   atom_round C e lv el r w' A₀ = record {
     stepped = stepped_asks w h lv h.frame h.top h.waiting v.end r w' C A₀;
     says = λ X most bottom k S σ K p c g l. subst (λ (m : Answer Terming). StepAnswers text X most bottom w' r m) (sym (enters-round X (bodies_in text w X) (term_here_with k S K) p σ t (kind_is 11 e) ∙ ap (λ (us : List Word). good (ask_term (term_here_with k S K) (element p []) S σ us)) looks.rest)) (
-        asked text X most bottom w h S σ K k c g (part_level 7 s 0 0) (element p []) h.frame h.top h.waiting v.end S (refl, refl, record { place = l.place; function = l.function }, tt) (record { walkable = g.scope.walkable; above = omega (arith, g.scope.above, c); variables = g.scope.variables }) (omega arith) (omega arith) g.few looks.readable r w' (subst (λ (y : Level). Asks w h y h.frame h.top h.waiting v.end r w') el A₀));
+        asked text X most bottom w h S σ K k c g (part_level 7 s 0 0) (element p []) h.frame h.top h.waiting v.end S (refl, refl, left_again w s p 7 0 0 l, tt) (record { walkable = g.scope.walkable; above = omega (arith, g.scope.above, c); variables = g.scope.variables }) (omega arith) (omega arith) g.few looks.readable r w' (subst (λ (y : Level). Asks w h y h.frame h.top h.waiting v.end r w') el A₀));
   }
 
   pub atom_part :
@@ -373,10 +373,10 @@ module _ (text w : List ℕ) (h : Walk) (s : Left) (v : code-word.Word) (looks :
 -- ---- an application that goes on
 
 module _ (text w : List ℕ) (h : Walk) (readable : ReadableFrom text h.at) where
-  pub application_on : begins_atom (words_at text h.at) ≡ true → (r : Result Walk Refusal) (w' : List ℕ) → AtomSays text w h (record { place = h.place; flag = 1; sub = h.sub }) (atom_entry text h.at) r w' → ApplicationSays text w h r w'
+  pub application_on : begins_atom (words_at text h.at) ≡ true → (r : Result Walk Refusal) (w' : List ℕ) → AtomSays text w h (record { place = h.place; function = Some h.sub }) (atom_entry text h.at) r w' → ApplicationSays text w h r w'
   application_on e r w' A = record {
     stepped = A.stepped;
-    says = λ X most bottom k S f K c g t. rw e (A.says X most bottom k S f.state K (record { place = h.place; function = some f }) c g (record { place = refl; function = (refl, t.term) }));
+    says = λ X most bottom k S f K c g t. rw e (A.says X most bottom k S f.state K (record { place = h.place; function = some f }) c g (record { place = refl; function = t.term }));
   }
 
   pub application-done : begins_atom (words_at text h.at) ≡ false → (r : Result Walk Refusal) → r ≡ done_step h (Ok h.sub) h.at → ApplicationSays text w h r w

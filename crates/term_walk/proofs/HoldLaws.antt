@@ -11,6 +11,7 @@ use Rattle.making_memory.specs.Map.{scope_at, frames_at, type_count_at, node_cou
 use Rattle.made_types.specs.Held.{HoldsState}
 use Rattle.made_types.proofs.Keeping.{state_kept}
 use Rattle.made_nodes.specs.Held.{TermHeld, MadeOnly}
+use Rattle.std.specs.Prelude.{Option, None, Some}
 use Rattle.made_nodes.specs.declared.Sub.{Sub}
 use Rattle.scopes.specs.Entries.{OnlyEntries}
 use Rattle.scopes.specs.Frames.{frame_in}
@@ -26,7 +27,7 @@ use Rattle.term_walk.specs.declared.Walk.{Walk}
 use Rattle.term_walk.specs.declared.Left.{Left}
 use Rattle.term_parts.specs.Halves.{PartsOnly}
 use Rattle.term_parts.proofs.Stay.{halves-stay}
-use Rattle.term_walk.specs.Holding.{LevelWrites, FunctionHeld, LeftHeld, sub_in, left_by, entries_of, halves_for, WishHeld, ScopeHeld, TermLevelHeld, TermLevelsHeld, HereHeld}
+use Rattle.term_walk.specs.Holding.{LevelWrites, FunctionHeld, LeftHeld, LeftIn, sub_in, left_by, entries_of, halves_for, WishHeld, ScopeHeld, TermLevelHeld, TermLevelsHeld, HereHeld}
 use Rattle.term_walk.specs.Steps.{HereNow}
 
 -- ---- what a level writes
@@ -85,11 +86,16 @@ module _ (m top waiting : ℕ) (w w' : List ℕ) (a : LevelWrites m top waiting 
   term_stays s e h = term_on_terms m top [] w w' a.walked s e h
 
   pub left_stays : (s : Left) (p : Spine) → LeftHeld w s p → LeftHeld w' s p
-  left_stays s p h = record { place = h.place; function = by p.function h.function }
+  left_stays s p h = record { place = h.place; function = by s.function p.function h.function }
     where
-      by : (f : Function) → FunctionHeld w s f → FunctionHeld w' s f
-      by none g = g
-      by (some f) (g, t) = (g, term_stays s.sub f t)
+      by : (g : Option Sub) (f : Function) → FunctionHeld w g f → FunctionHeld w' g f
+      by None none t = t
+      by None (some f) t = absurd t
+      by (Some x) none t = absurd t
+      by (Some x) (some f) t = term_stays x f t
+
+  left_in_stays : (l : Level) (p : Spine) → LeftIn w l p → LeftIn w' l p
+  left_in_stays l p h = record { flag = h.flag; held = left_stays (left_by l) p h.held }
 
   pub wish_stays : (text : List ℕ) (t wt : ℕ) (l : Level) (x : TermWish) → t + entries_of x ≤ top → wt + halves_for x ≤ waiting → WishHeld text w t wt l x → WishHeld text w' t wt l x
   wish_stays text t wt l (of_function xs θ) b c (f, n, y, k, N) = (f, n, y, omega (arith, a.walked.more_types), λ i h. a.walked.entries (scope_at + 2 * (t + i)) (omega arith) (omega arith) ∙ N i h)
@@ -98,8 +104,8 @@ module _ (m top waiting : ℕ) (w w' : List ℕ) (a : LevelWrites m top waiting 
   wish_stays text t wt l (value_of_names at xs us) b c h = h
   wish_stays text t wt l (under_name x v) b c (f, p, h) = (f, p, term_stays (sub_in l) v h)
   wish_stays text t wt l (under_names ps) b c (f, n, h) = (f, n, halves-stay _ _ w w' wt ps (λ j x y. a.halves j x (omega arith)) term_stays h)
-  wish_stays text t wt l (element s before) b c (f, n, s', h) = (f, n, left_stays (left_by l) s s', halves-stay _ _ w w' wt before (λ j x y. a.halves j x (omega arith)) term_stays h)
-  wish_stays text t wt l (of_definition s us) b c (f, s', u, x) = (f, left_stays (left_by l) s s', u, x)
+  wish_stays text t wt l (element s before) b c (f, n, s', h) = (f, n, left_in_stays l s s', halves-stay _ _ w w' wt before (λ j x y. a.halves j x (omega arith)) term_stays h)
+  wish_stays text t wt l (of_definition s us) b c (f, s', u, x) = (f, left_in_stays l s s', u, x)
 
   module _ (text : List ℕ) (X : Text) (σ σ' : State) (H' : HoldsState w' σ') where
     pub scope-stays : (k frame t : ℕ) (S : Scope) → m ≤ k → t ≤ top → ScopeHeld text w X k frame t S σ → ScopeHeld text w' X k frame t S σ'

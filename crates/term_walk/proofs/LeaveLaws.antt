@@ -44,7 +44,7 @@ use Rattle.term_walk.specs.Steps.{done_step, part_level, CanAskTerm, Below, Asks
 use Rattle.term_parts.proofs.Stay.{entries_state, half_long, half_state, parts_of_half, halves-put, can_join}
 use Rattle.term_walk.proofs.LookLaws.{words-lexed}
 use Rattle.term_walk.proofs.HoldLaws.{stepped_none, stepped_then, stepped_made, stepped_parts, stepped_entries, stepped_less, term_stays, left_stays, here_stays, here-now}
-use Rattle.term_walk.proofs.StepLaws.{made-nodes, done_says, stepped_asks, asks-below, asked}
+use Rattle.term_walk.proofs.StepLaws.{left_again, made-nodes, done_says, stepped_asks, asks-below, asked}
 use Rattle.term_walk.proofs.AtomLaws.{here-room, here_workable, edition_in}
 use Rattle.term_walk.proofs.RoundLaws.{look_yes, look_no}
 use Rattle.term_walk.proofs.BinderLaws.{names-length}
@@ -143,7 +143,7 @@ module _ (text w : List ℕ) (h : Walk) (l : Level) (x : Sub) (C : CanLeave text
       by (under_name y v) hh en t = absurd (omega (arith, hh.0, form))
       by (under_names ps) hh en t = absurd (omega (arith, hh.0, form))
       by (of_definition q us) hh en t = absurd (omega (arith, hh.0, form))
-      by (element q before) (f, n, s, hs) en t = (can_join _ _ w h.waiting l.count before C.m.state x C.m (sym n) (omega (arith, t.few, n, C.here.scope.walkable.state.few)) C.here.scope.walkable.state t.term hs, (omega (arith, t.few, n, C.here.scope.walkable.state.few), (q, s)))
+      by (element q before) (f, n, s, hs) en t = (can_join _ _ w h.waiting l.count before C.m.state x C.m (sym n) (omega (arith, t.few, n, C.here.scope.walkable.state.few)) C.here.scope.walkable.state t.term hs, (omega (arith, t.few, n, C.here.scope.walkable.state.few), (q, s.held)))
 
   pub definition_facts : l.form ≡ 8 → CanApply w (left_by l) x
   definition_facts form = by C.wish C.held C.entries C.came
@@ -156,7 +156,7 @@ module _ (text w : List ℕ) (h : Walk) (l : Level) (x : Sub) (C : CanLeave text
       by (under_name y v) hh en t = absurd (omega (arith, hh.0, form))
       by (under_names ps) hh en t = absurd (omega (arith, hh.0, form))
       by (element q before) hh en t = absurd (omega (arith, hh.0, form))
-      by (of_definition q us) (f, s, u, b) en t = record { workable = leave_workable; type = leave_type; p = q; left = s }
+      by (of_definition q us) (f, s, u, b) en t = record { workable = leave_workable; type = leave_type; p = q; left = s.held }
 
   pub values_facts : l.form ≡ 4 → (h.top + (l.count + l.count) ≤ most_entries) → CanApart text w l.next l.count h.top h.waiting x
   values_facts form = by C.wish C.held C.entries C.came
@@ -172,18 +172,18 @@ module _ (text w : List ℕ) (h : Walk) (l : Level) (x : Sub) (C : CanLeave text
       by (value_of_names p xs us) (f, p', e, st, u) en t = λ room. record { names = st; short = C.here.scope.walkable.short; few = omega arith; halves = omega (arith, t.few, C.here.scope.walkable.state.nodes); made = C.m; state = C.here.scope.walkable.state; held = t.term; frame = h.frame; level = C.here.scope.walkable.level; S = C.S; scope = C.here.scope.walkable.scope }
 
   -- the forms that are left
-  pub let_forms : ¬ (l.form ≡ 1) → ¬ (l.form ≡ 2) → ¬ (l.form ≡ 7) → ¬ (l.form ≡ 8) → (3 ≤ l.form) × (l.form ≤ 6)
-  let_forms a b c d = by C.wish C.held
+  pub some_form : (1 ≤ l.form) × (l.form ≤ 8)
+  some_form = by C.wish C.held
     where
-      by : (wish : TermWish) → WishHeld text w h.top h.waiting l wish → (3 ≤ l.form) × (l.form ≤ 6)
-      by (of_function xs t) hh = absurd (a hh.0)
-      by (of_fix y t) hh = absurd (b hh.0)
+      by : (wish : TermWish) → WishHeld text w h.top h.waiting l wish → (1 ≤ l.form) × (l.form ≤ 8)
+      by (of_function xs t) hh = (omega (arith, hh.0), omega (arith, hh.0))
+      by (of_fix y t) hh = (omega (arith, hh.0), omega (arith, hh.0))
       by (value_of_name p y) hh = (omega (arith, hh.0), omega (arith, hh.0))
       by (value_of_names p xs us) hh = (omega (arith, hh.0), omega (arith, hh.0))
       by (under_name y v) hh = (omega (arith, hh.0), omega (arith, hh.0))
       by (under_names ps) hh = (omega (arith, hh.0), omega (arith, hh.0))
-      by (element q before) hh = absurd (c hh.0)
-      by (of_definition q us) hh = absurd (d hh.0)
+      by (element q before) hh = (omega (arith, hh.0), omega (arith, hh.0))
+      by (of_definition q us) hh = (omega (arith, hh.0), omega (arith, hh.0))
 
 -- ---- the level is done
 
@@ -276,7 +276,7 @@ module _ (text w : List ℕ) (h : Walk) (l : Level) (x : Sub) (C : CanLeave text
       by X most bottom k S K m c g (under_names ps) hh en t = absurd (omega (arith, hh.0, form))
       by X most bottom k S K m c g (element q before) hh en t = absurd (omega (arith, hh.0, form))
       by X most bottom k S K m c g (of_definition q us) (f, s', u, b) en t =
-          subst (λ (vs : List Word). StepAnswers text X most bottom w' r (behind_atom (term_here_with k S K) q m vs)) (words-lexed text l.next b ∙ sym u) (B.says text X most bottom k S K q m c (λ _. b) g (record { term = t.term; few = omega (arith, t.few) }) s')
+          subst (λ (vs : List Word). StepAnswers text X most bottom w' r (behind_atom (term_here_with k S K) q m vs)) (words-lexed text l.next b ∙ sym u) (B.says text X most bottom k S K q m c (λ _. b) g (record { term = t.term; few = omega (arith, t.few) }) s'.held)
 
   -- the tuple is an atom
   pub tuple-done : l.form ≡ 7 → (v : code-word.Word) → Looks text h.at v → ¬ (v.kind ≡ 14) → (y : Result Sub Refusal) (w₁ : List ℕ) → PairsSay w h.waiting l.count x y w₁ → (s : Left) → s ≡ left_by l → (r : Result Walk Refusal) (w' : List ℕ) → MadeSays w₁ h s y v.end r w' → LeaveSays text w h l x r w'
@@ -304,7 +304,7 @@ module _ (text w : List ℕ) (h : Walk) (l : Level) (x : Sub) (C : CanLeave text
           let i = P.says before m (sym n) hs H t.term in
           subst (λ (bb : Bool). StepAnswers text X most bottom w' r (cond bb (good (ask_term (term_here_with k S K) (element q (record { made = m; comma = place (words_at text h.at) } ∷ before)) S m.state (behind (words_at text h.at)))) (pairs_of before m >>= λ p. behind_atom (term_here_with k S K) q p (behind (words_at text h.at))))) (sym (look_no text h.at v looks comma no-comma)) (
           subst (λ (vs : List Word). StepAnswers text X most bottom w' r (pairs_of before m >>= λ p. behind_atom (term_here_with k S K) q p vs)) (sym looks.rest) (
-          M.says text X most bottom k S K q (pairs_of before m) c looks.readable (here-now text X most bottom w w₁ h S m.state K g st) i (made-nodes h.waiting w w₁ y _ (omega (arith, t.few, H.nodes)) P.only i) (left_stays h.more h.top h.waiting w w₁ st (left_by l) q s')))
+          M.says text X most bottom k S K q (pairs_of before m) c looks.readable (here-now text X most bottom w w₁ h S m.state K g st) i (made-nodes h.waiting w w₁ y _ (omega (arith, t.few, H.nodes)) P.only i) (left_stays h.more h.top h.waiting w w₁ st (left_by l) q s'.held)))
 
   pub tuple_can : l.form ≡ 7 → (y : Result Sub Refusal) (w₁ : List ℕ) → PairsSay w h.waiting l.count x y w₁ → (s : Left) → s ≡ left_by l → CanApplyMade w₁ s y
   tuple_can form y w₁ P s es = subst (λ (u : Left). CanApplyMade w₁ u y) (sym es) (by y P.small)
@@ -349,13 +349,13 @@ module _ (text w : List ℕ) (h : Walk) (l : Level) (x : Sub) (C : CanLeave text
           let H = g.scope.walkable.state in
           let H₁ : HoldsState w₁ m.state = subst (λ (u : List ℕ). HoldsState u m.state) (sym ew) (half_state w i _ room m.state H) in
           let g₁ = here_stays text X most bottom w w₁ h S m.state K g st m.state H₁ in
-          let l₁ = left_stays h.more h.top h.waiting w w₁ st (left_by l) q s' in
+          let l₁ = left_stays h.more h.top h.waiting w w₁ st (left_by l) q s'.held in
           let now : Element = record { made = m; comma = v.start } in
           let hs₁ = halves-put (λ (a : Element). a.made) (λ (a : Element). a.comma) w h.waiting i before now x w₁ (ei ∙ ap (λ (z : ℕ). h.waiting + z) n) room ew t.term hs in
           subst (λ (bb : Bool). StepAnswers text X most bottom w' r (cond bb (good (ask_term (term_here_with k S K) (element q (record { made = m; comma = place (words_at text h.at) } ∷ before)) S m.state (behind (words_at text h.at)))) (pairs_of before m >>= λ p. behind_atom (term_here_with k S K) q p (behind (words_at text h.at))))) (sym (look_yes text h.at v looks comma is-comma)) (
           subst (λ (vs : List Word). StepAnswers text X most bottom w' r (good (ask_term (term_here_with k S K) (element q (record { made = m; comma = place (words_at text h.at) } ∷ before)) S m.state vs))) (sym looks.rest) (
           subst (λ (z : ℕ). StepAnswers text X most bottom w' r (good (ask_term (term_here_with k S K) (element q (record { made = m; comma = z } ∷ before)) S m.state (words_at text v.end)))) looks.place (
-          asked text X most bottom w₁ h S m.state K k c g₁ (part_level 7 (left_by l) (l.count + 1) 0) (element q (now ∷ before)) h.frame h.top (i + 1) v.end S (refl, omega (arith, n), record { place = l₁.place; function = l₁.function }, hs₁) (record { walkable = g₁.scope.walkable; above = omega (arith, g₁.scope.above, c); variables = g₁.scope.variables }) (omega arith) (omega (arith, n, ei)) (omega (arith, n, ei, t.few)) looks.readable r w' A)))
+          asked text X most bottom w₁ h S m.state K k c g₁ (part_level 7 (left_by l) (l.count + 1) 0) (element q (now ∷ before)) h.frame h.top (i + 1) v.end S (refl, omega (arith, n), left_again w₁ (left_by l) q 7 (l.count + 1) 0 l₁, hs₁) (record { walkable = g₁.scope.walkable; above = omega (arith, g₁.scope.above, c); variables = g₁.scope.variables }) (omega arith) (omega (arith, n, ei)) (omega (arith, n, ei, t.few)) looks.readable r w' A)))
 
 -- ---- numbers that the code made wider
 
@@ -367,6 +367,12 @@ pairs_as w from' count n x y w' e J = subst (λ (k : ℕ). PairsSay w from' k x 
 
 pub projections_as : (w : List ℕ) (from' count n : ℕ) (x : Sub) (y : Result Sub Refusal) (w' : List ℕ) → n ≡ count → ProjectionsSay w from' n x y w' → ProjectionsSay w from' count x y w'
 projections_as w from' count n x y w' e J = subst (λ (k : ℕ). ProjectionsSay w from' k x y w') e J
+
+pub type_as : (v v' : Sub) → v ≡ v' → v'.ty < 256 → v.ty < 256
+type_as v v' e h = subst (λ (u : Sub). u.ty < 256) (sym e) h
+
+pub naming_as : (w : List ℕ) (place : ℕ) (v v' x : Sub) (y : Result Sub Refusal) (w' : List ℕ) → v ≡ v' → NamingSays w place v x y w' → NamingSays w place v' x y w'
+naming_as w place v v' x y w' e N = subst (λ (u : Sub). NamingSays w place u x y w') e N
 
 pub apply_as : (w : List ℕ) (s s' : Left) (x : Sub) → s ≡ s' → CanApply w s' x → CanApply w s x
 apply_as w s s' x e A = subst (λ (u : Left). CanApply w u x) (sym e) A

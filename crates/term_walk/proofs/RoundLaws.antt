@@ -6,7 +6,7 @@ use mathlib.Core.List.{List, [], ◌∷◌}
 use native.Mathlib.Omega.{arith}
 use borrow.Author.Tests.{eq-eqb, ne_eqb}
 use lib.ListN.{length}
-use Rattle.std.specs.Prelude.{Result, Ok, Err}
+use Rattle.std.specs.Prelude.{Option, None, Result, Ok, Err}
 use Rattle.answers.specs.declared.Refusal.{Refusal}
 use Rattle.answers.specs.declared.Reason.{Reason}
 use Rattle.answers.specs.Refusals.{said_why, refusal_at}
@@ -41,7 +41,7 @@ use Rattle.term_walk.specs.declared.Walk.{Walk}
 use Rattle.term_walk.specs.declared.Phase.{Phase}
 use Rattle.term_walk.specs.declared.Left.{Left}
 use Rattle.term_walk.specs.Looks.{words_at, ReadableFrom, Looks}
-use Rattle.term_walk.specs.Holding.{LevelWrites, LeftHeld, entries_of, halves_for, HereHeld, TermCame, CameHere, HoldsTerming}
+use Rattle.term_walk.specs.Holding.{LevelWrites, FunctionHeld, LeftHeld, entries_of, halves_for, HereHeld, TermCame, CameHere, HoldsTerming}
 use Rattle.term_walk.specs.Steps.{StepAnswers, term_here_with, bodies_in, LevelEntry, CanEnter, EnterSays, function_entry, fix_entry, let_entry, atom_entry, AtomSays, CanNames, CanLeave, LeaveSays, CanApplication, ApplicationSays, CanMoveTerm, StepSays}
 use Rattle.term_walk.proofs.LookLaws.{words-lexed}
 use Rattle.term_walk.proofs.HoldLaws.{levels_within}
@@ -123,10 +123,10 @@ module _ (text w : List ℕ) (h : Walk) (z : h.phase ≡ Phase.Wanted) where
     pub entered-atom : ¬ (v.kind ≡ 1) → ¬ (v.kind ≡ 2) → ¬ (v.kind ≡ 3) → (X : Text) (bodies : List (List Word)) (h' : TermHere) (σ : State) → term_entered X bodies h' σ ws ≡ spineEntry X bodies h' σ
     entered-atom a b c X bodies h' σ = rw (look_no text h.at v looks fun a, look_no text h.at v looks fix b, look_no text h.at v looks lets c) refl
 
-    pub left-first : (s : Left) → s.flag ≡ 0 → s.place ≡ v.start → LeftHeld w s (record { place = place ws; function = none })
-    left-first s f p = record { place = p ∙ looks.place; function = f }
+    pub left-first : (s : Left) → s.function ≡ None → s.place ≡ v.start → LeftHeld w s (record { place = place ws; function = none })
+    left-first s f p = record { place = p ∙ looks.place; function = subst (λ (g : Option Sub). FunctionHeld w g none) (sym f) tt }
 
-    pub enter-atom : (s : Left) → s.flag ≡ 0 → s.place ≡ v.start → (r : Result Walk Refusal) (w' : List ℕ) → AtomSays text w h s (atom_entry text h.at) r w' → EnterSays text w h spineEntry r w'
+    pub enter-atom : (s : Left) → s.function ≡ None → s.place ≡ v.start → (r : Result Walk Refusal) (w' : List ℕ) → AtomSays text w h s (atom_entry text h.at) r w' → EnterSays text w h spineEntry r w'
     enter-atom s f p r w' A = record { stepped = A.stepped; says = λ X most bottom k S σ K c g. A.says X most bottom k S σ K (record { place = place ws; function = none }) c g (left-first s f p) }
 
     -- the words behind the level's first word

@@ -4,7 +4,9 @@ use mathlib.Core.Path.{◌≡◌, refl, sym, ap, subst}
 use mathlib.Core.List.{List, ◌∷◌}
 use native.Mathlib.Omega.{arith}
 use lib.ListN.{length, get_or}
-use Rattle.std.specs.Prelude.{Result, Ok, Err}
+use mathlib.Core.Bool.{cond}
+use lib.Dec.{eqb}
+use Rattle.std.specs.Prelude.{Option, None, Some, Result, Ok, Err}
 use Rattle.answers.specs.declared.Refusal.{Refusal}
 use Rattle.calculus.specs.Answer.{Answer, good, refused, ◌>>=◌}
 use Rattle.calculus.specs.Types.{rec_at}
@@ -24,8 +26,8 @@ use Rattle.term_walk.specs.declared.Walk.{Walk}
 use Rattle.term_walk.specs.declared.Phase.{Phase}
 use Rattle.term_walk.specs.declared.Left.{Left}
 use Rattle.term_walk.specs.Looks.{words_at, ReadableFrom}
-use Rattle.term_walk.specs.Holding.{LevelWrites, FunctionHeld, LeftHeld, entries_of, halves_for, WishHeld, ScopeHeld, TermLevelHeld, TermLevelsHeld, HereHeld, TermCame}
-use Rattle.term_walk.specs.Steps.{nothing_sub, done_step, applies_step, around_walk, CanAskTerm, Below, Asks, CanEnter, StepAnswers, term_here_with, BehindSays, HereNow, MadeNodes, MadeSays}
+use Rattle.term_walk.specs.Holding.{LevelWrites, FunctionHeld, LeftHeld, LeftIn, entries_of, halves_for, WishHeld, ScopeHeld, TermLevelHeld, TermLevelsHeld, HereHeld, TermCame}
+use Rattle.term_walk.specs.Steps.{nothing_sub, function_flag, function_sub, part_level, done_step, applies_step, around_walk, CanAskTerm, Below, Asks, CanEnter, StepAnswers, term_here_with, BehindSays, HereNow, MadeNodes, MadeSays}
 use Rattle.term_walk.proofs.HoldLaws.{stepped_none, stepped_made, stepped_pushed, wish_stays, levels-stay, here-now, pushed_state, pushed_scope-held, levels_within}
 
 -- ---- by the code
@@ -69,27 +71,39 @@ module _ (text : List ℕ) (X : Text) (most bottom : ℕ) (w : List ℕ) (h : Wa
 -- ---- an atom that is there
 
 -- the function so far has a type of the table
-pub left_small : (w : List ℕ) (s : Left) (p : Spine) → Workable w → LeftHeld w s p → ¬ (s.flag ≡ 0) → s.sub.ty < 256
-left_small w s p W l z = by p.function l.function
+pub left_small : (w : List ℕ) (s : Left) (p : Spine) → Workable w → LeftHeld w s p → (y : Sub) → s.function ≡ Some y → y.ty < 256
+left_small w s p W l y e = by p.function (subst (λ (g : Option Sub). FunctionHeld w g p.function) e l.function)
   where
-    by : (f : Function) → FunctionHeld w s f → s.sub.ty < 256
-    by none e = absurd (z e)
-    by (some f) (e, t) = omega (arith, t.known, W.few)
+    by : (f : Function) → FunctionHeld w (Some y) f → y.ty < 256
+    by none t = absurd t
+    by (some f) t = omega (arith, t.known, W.few)
+
+-- a level keeps what stands left of an atom
+pub left_again : (w : List ℕ) (s : Left) (p : Spine) (form count next : ℕ) → LeftHeld w s p → LeftIn w (part_level form s count next) p
+left_again w s p form count next l = record { flag = few s.function; held = record { place = l.place; function = by s.function p.function l.function } }
+  where
+    few : (g : Option Sub) → function_flag g ≤ 1
+    few None = omega arith
+    few (Some f) = omega arith
+
+    by : (g : Option Sub) (f : Function) → FunctionHeld w g f → FunctionHeld w (cond (eqb (function_flag g) 0) None (Some (record { node = (function_sub g).node; ty = (function_sub g).ty; deep = (function_sub g).deep }))) f
+    by None f t = t
+    by (Some x) f t = t
 
 module _ (w : List ℕ) (h : Walk) (s : Left) (x : Sub) (at : ℕ) where
-  pub behind-first : s.flag ≡ 0 → (r : Result Walk Refusal) → r ≡ applies_step h s.place (Ok x) at → BehindSays w h s x at r w
-  behind-first z r e = record { stepped = λ a b. stepped_none h.more h.top h.waiting w; says = λ text X most bottom k S K p m q rd g t l. rw e (by text X most bottom k S K p m q rd g t l p.function l.function) }
+  pub behind-first : s.function ≡ None → (r : Result Walk Refusal) → r ≡ applies_step h s.place (Ok x) at → BehindSays w h s x at r w
+  behind-first z r e = record { stepped = λ a b. stepped_none h.more h.top h.waiting w; says = λ text X most bottom k S K p m q rd g t l. rw e (by text X most bottom k S K p m q rd g t l p.function (subst (λ (y : Option Sub). FunctionHeld w y p.function) z l.function)) }
     where
-      by : (text : List ℕ) (X : Text) (most bottom k : ℕ) (S : Scope) (K : List TermLevel) (p : Spine) (m : Made) → h.more ≡ suc k → ReadableFrom text at → HereHeld text X most bottom w h S m.state K → TermCame w x h.waiting m → LeftHeld w s p → (f : Function) → FunctionHeld w s f → StepAnswers text X most bottom w (applies_step h s.place (Ok x) at) (applied_to (term_here_with k S K) p.place f m (words_at text at))
+      by : (text : List ℕ) (X : Text) (most bottom k : ℕ) (S : Scope) (K : List TermLevel) (p : Spine) (m : Made) → h.more ≡ suc k → ReadableFrom text at → HereHeld text X most bottom w h S m.state K → TermCame w x h.waiting m → LeftHeld w s p → (f : Function) → FunctionHeld w None f → StepAnswers text X most bottom w (applies_step h s.place (Ok x) at) (applied_to (term_here_with k S K) p.place f m (words_at text at))
       by text X most bottom k S K p m q rd g t l none y = applies_says text X most bottom w h S K k at q rd (here-now text X most bottom w w h S m.state K g (stepped_none h.more h.top h.waiting w)) s.place p.place l.place (Ok x) (good m) (g.scope.walkable.state, t.term) t.few
-      by text X most bottom k S K p m q rd g t l (some f) (y, _) = absurd (omega (arith, y, z))
+      by text X most bottom k S K p m q rd g t l (some f) y = absurd y
 
-  pub behind-applied : ¬ (s.flag ≡ 0) → (y : Result Sub Refusal) (w' : List ℕ) → AppliedSays w s.place s.sub x y w' → (r : Result Walk Refusal) → r ≡ applies_step h s.place y at → BehindSays w h s x at r w'
-  behind-applied z y w' A r e = record { stepped = λ a b. stepped_made h.more h.top h.waiting w w' a b A.only; says = λ text X most bottom k S K p m q rd g t l. rw e (by text X most bottom k S K p m q rd g t l p.function l.function) }
+  pub behind-applied : (v : Sub) → s.function ≡ Some v → (y : Result Sub Refusal) (w' : List ℕ) → AppliedSays w s.place v x y w' → (r : Result Walk Refusal) → r ≡ applies_step h s.place y at → BehindSays w h s x at r w'
+  behind-applied v z y w' A r e = record { stepped = λ a b. stepped_made h.more h.top h.waiting w w' a b A.only; says = λ text X most bottom k S K p m q rd g t l. rw e (by text X most bottom k S K p m q rd g t l p.function (subst (λ (u : Option Sub). FunctionHeld w u p.function) z l.function)) }
     where
-      by : (text : List ℕ) (X : Text) (most bottom k : ℕ) (S : Scope) (K : List TermLevel) (p : Spine) (m : Made) → h.more ≡ suc k → ReadableFrom text at → HereHeld text X most bottom w h S m.state K → TermCame w x h.waiting m → LeftHeld w s p → (f : Function) → FunctionHeld w s f → StepAnswers text X most bottom w' (applies_step h s.place y at) (applied_to (term_here_with k S K) p.place f m (words_at text at))
-      by text X most bottom k S K p m q rd g t l none c = absurd (z c)
-      by text X most bottom k S K p m q rd g t l (some f) (c, F) =
+      by : (text : List ℕ) (X : Text) (most bottom k : ℕ) (S : Scope) (K : List TermLevel) (p : Spine) (m : Made) → h.more ≡ suc k → ReadableFrom text at → HereHeld text X most bottom w h S m.state K → TermCame w x h.waiting m → LeftHeld w s p → (f : Function) → FunctionHeld w (Some v) f → StepAnswers text X most bottom w' (applies_step h s.place y at) (applied_to (term_here_with k S K) p.place f m (words_at text at))
+      by text X most bottom k S K p m q rd g t l none c = absurd c
+      by text X most bottom k S K p m q rd g t l (some f) F =
           let H = g.scope.walkable.state in
           let i = A.says f m H F t.term in
           let st = stepped_made h.more h.top h.waiting w w' g.scope.walkable.scope.places.most (omega (arith, g.few, H.few)) A.only in

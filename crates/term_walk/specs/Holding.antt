@@ -1,5 +1,5 @@
 -- When the working memory and the numbers of the walk hold a state of the machine of terms. Assumes nothing.
-use Rattle.std.specs.Prelude.{ℕ, suc, ◌+◌, ◌*◌, ◌≤◌, ◌<◌, ◌≡◌, List, [], ◌∷◌, length, get_or}
+use Rattle.std.specs.Prelude.{ℕ, suc, ◌+◌, ◌*◌, ◌≤◌, ◌<◌, ◌≡◌, cond, List, [], ◌∷◌, Option, None, Some, eqb, length, get_or}
 use Rattle.notation_calculus.specs.Words.{Word}
 use Rattle.notation_calculus.specs.Trees.{Text}
 use Rattle.notation_calculus.specs.Grammar.{behind}
@@ -33,20 +33,26 @@ pub record LevelWrites (m top waiting : ℕ) (w w' : List ℕ) : Type 0 where
 -- ---- levels
 
 -- the function so far, if there is one
-abbrev pub FunctionHeld : List ℕ → Left → Function → Type 0
-FunctionHeld w s none = s.flag ≡ 0
-FunctionHeld w s (some f) = (s.flag ≡ 1) × TermHeld w s.sub f
+abbrev pub FunctionHeld : List ℕ → Option Sub → Function → Type 0
+FunctionHeld w None none = Unit {0}
+FunctionHeld w None (some f) = ⊥
+FunctionHeld w (Some x) none = ⊥
+FunctionHeld w (Some x) (some f) = TermHeld w x f
 
 pub record LeftHeld (w : List ℕ) (s : Left) (p : Spine) : Type 0 where
   pub place : s.place ≡ p.place
-  pub function : FunctionHeld w s p.function
+  pub function : FunctionHeld w s.function p.function
 
 -- the term, and what stands left of an atom, in a level's numbers
 abbrev pub sub_in : Level → Sub
 sub_in l = record { node = l.node; ty = l.ty; deep = l.deep }
 
 abbrev pub left_by : Level → Left
-left_by l = record { place = l.place; flag = l.flag; sub = sub_in l }
+left_by l = record { place = l.place; function = cond (eqb l.flag 0) None (Some (sub_in l)) }
+
+pub record LeftIn (w : List ℕ) (l : Level) (p : Spine) : Type 0 where
+  pub flag : l.flag ≤ 1
+  pub held : LeftHeld w (left_by l) p
 
 -- entries above the level's scope that it needs, and terms that wait for it
 abbrev pub entries_of : TermWish → ℕ
@@ -77,8 +83,8 @@ WishHeld text w top waiting l (value_of_name at x) = (l.form ≡ 3) × (l.place 
 WishHeld text w top waiting l (value_of_names at xs us) = (l.form ≡ 4) × (l.place ≡ at) × (xs ≡ listed_names text l.next l.count) × NamesStand head_at behind text l.next l.count × (us ≡ from text l.next)
 WishHeld text w top waiting l (under_name x v) = (l.form ≡ 5) × (l.place ≡ x.place) × TermHeld w (sub_in l) v
 WishHeld text w top waiting l (under_names ps) = (l.form ≡ 6) × (l.count ≡ length ps) × TakenIn w waiting ps
-WishHeld text w top waiting l (element s before) = (l.form ≡ 7) × (l.count ≡ length before) × LeftHeld w (left_by l) s × ElementsIn w waiting before
-WishHeld text w top waiting l (of_definition s us) = (l.form ≡ 8) × LeftHeld w (left_by l) s × (us ≡ from text l.next) × Lexed text l.next
+WishHeld text w top waiting l (element s before) = (l.form ≡ 7) × (l.count ≡ length before) × LeftIn w l s × ElementsIn w waiting before
+WishHeld text w top waiting l (of_definition s us) = (l.form ≡ 8) × LeftIn w l s × (us ≡ from text l.next) × Lexed text l.next
 
 -- a scope of a level, in a frame that no level below writes; its variables begin where the frame says
 pub record ScopeHeld (text w : List ℕ) (X : Text) (m frame top : ℕ) (S : Scope) (σ : State) : Type 0 where

@@ -1,5 +1,5 @@
 -- What the functions of one step answer: in each record, whatever state the memory held, the answer is that of the machine. Assumes nothing.
-use Rattle.std.specs.Prelude.{ℕ, suc, ◌+◌, ◌-◌, ◌≤◌, ◌<◌, ◌≡◌, Bool, true, false, List, [], ◌∷◌, length, get_or, Result, Ok, Err}
+use Rattle.std.specs.Prelude.{ℕ, suc, ◌+◌, ◌-◌, ◌≤◌, ◌<◌, ◌≡◌, Bool, true, false, List, [], ◌∷◌, length, get_or, Option, None, Some, Result, Ok, Err}
 use Rattle.answers.specs.declared.Refusal.{Refusal}
 use Rattle.answers.specs.Refusals.{said_why}
 use Rattle.calculus.specs.Answer.{Answer, good, refused, ◌>>=◌}
@@ -29,6 +29,7 @@ use Rattle.walks.specs.Says.{bound_at, CanWalk, TypeAnswers, put_from}
 use Rattle.walks.specs.declared.TypeEnd.{TypeEnd}
 use Rattle.term_walk.specs.declared.Walk.{Walk}
 use Rattle.term_walk.specs.declared.Phase.{Phase}
+use Rattle.term_walk.specs.declared.Form.{Form}
 use Rattle.term_walk.specs.declared.Left.{Left}
 use Rattle.term_parts.specs.Names.{NamesStand, spaced_names, listed_names}
 use Rattle.term_walk.specs.Looks.{words_at, ReadableFrom}
@@ -65,8 +66,28 @@ abbrev pub applies_step : Walk → ℕ → Result Sub Refusal → ℕ → Result
 applies_step h begins (Err e) at = Err e
 applies_step h begins (Ok sub) at = Ok (applying_walk h begins sub at)
 
+-- the number of a form
+abbrev pub form_number : Form → ℕ
+form_number Form.OfFunction = 1
+form_number Form.OfFix = 2
+form_number Form.ValueOfName = 3
+form_number Form.ValueOfNames = 4
+form_number Form.UnderName = 5
+form_number Form.UnderNames = 6
+form_number Form.Element = 7
+form_number Form.OfDefinition = 8
+
+-- the function so far in a level: whether there is one, and its numbers
+abbrev pub function_flag : Option Sub → ℕ
+function_flag None = 0
+function_flag (Some f) = 1
+
+abbrev pub function_sub : Option Sub → Sub
+function_sub None = nothing_sub
+function_sub (Some f) = f
+
 abbrev pub part_level : ℕ → Left → ℕ → ℕ → Level
-part_level form s count next = record { form = form; flag = s.flag; place = s.place; count = count; node = s.sub.node; ty = s.sub.ty; deep = s.sub.deep; next = next }
+part_level form s count next = record { form = form; flag = function_flag s.function; place = s.place; count = count; node = (function_sub s.function).node; ty = (function_sub s.function).ty; deep = (function_sub s.function).deep; next = next }
 
 -- the scope of the level that the walk is at
 abbrev pub around_walk : Walk → Around
@@ -133,9 +154,9 @@ pub record EnterSays (text w : List ℕ) (h : Walk) (D : LevelEntry) (r : Result
 abbrev pub AtomEntry : Type 0
 AtomEntry = Text → List (List Word) → TermHere → Spine → State → Answer Terming
 
--- where the application begins, and the function so far, if there is one: the walk has it
-abbrev pub left_here : Walk → ℕ → ℕ → Left
-left_here h place flag = record { place = place; flag = flag; sub = h.sub }
+-- where the application begins, and the function so far, if there is one
+abbrev pub left_here : ℕ → Option Sub → Left
+left_here place function = record { place = place; function = function }
 
 pub record CanAtom (text w : List ℕ) (h : Walk) (s : Left) : Type 0 where
   pub can : CanEnter text w h

@@ -6,7 +6,7 @@ ghost use Rattle.words.specs.Lexed.{Lexed};
 ghost use Rattle.term_walk.specs.Looks.{Looks};
 ghost use Rattle.term_walk.specs.Steps.{left_here, CanApply, BehindSays, CanApplyMade, MadeSays, CanAtom, AtomSays, TypesWait, clause_entry, put_entry, plain_entry, named_entry, atom_entry, CanApplication, ApplicationSays};
 
-use crate::{Left, Walk, looks};
+use crate::{Form, Left, Walk, looks};
 use answers::{Reason, Refusal};
 use made_nodes::Sub;
 
@@ -21,10 +21,10 @@ pub fn behind_atom(work: &mut [u16], h: Walk, s: Left, x: Sub, at: usize) -> Res
     requires { CanApply work.old s x }
     ensures { BehindSays work.old h s x at result work.new }
 {
-    if s.flag == 0 {
+    let Some(f) = s.function else {
         return Ok(crate::applies(h, s.place, x, at));
-    }
-    let made = made_nodes::pairs::applied(work, s.place, s.sub, x)?;
+    };
+    let made = made_nodes::pairs::applied(work, s.place, f, x)?;
     Ok(crate::applies(h, s.place, made, at))
 }
 
@@ -44,7 +44,7 @@ fn put_clause(
 {
     let below = h.more - 1;
     let q = putting::put_in(text, work, false, name, at, types, h.frame, h.top, below)?;
-    let l = crate::part_level(crate::OF_DEFINITION, s, 0, q.end as u16);
+    let l = crate::part_level(Form::OfDefinition, s, 0, q.end as u16);
     crate::ask(work, h, l, below, q.top, h.waiting, q.body)
 }
 
@@ -106,25 +106,25 @@ fn named_at(
 }
 
 // An atom begins with the word at the offset: behind an opening parenthesis the first element is wanted. The word, and where the application begins, are
-// passed on by their fields: a struct that was just written is waited for where it is copied as a whole.
+// passed on by their fields: a struct that was just written is waited for where it is copied as a whole. The kind is that of `words::Word`, a number
+// of which the definition `token_code` speaks: no enum says which step comes next, here and in `rounds::enter`.
 pub fn atom_at(
     text: &[u8],
     work: &mut [u16],
     h: Walk,
     place: u16,
-    flag: u16,
+    function: Option<Sub>,
     kind: u8,
     value: u8,
     start: usize,
     end: usize,
 ) -> Result<Walk, Refusal>
-    requires { (CanAtom text.now work.old h (left_here h place flag)) × Looks text.now h.at (record { kind = kind; value = value; start = start; end = end }) }
-    ensures { AtomSays text.now work.old h (left_here h place flag) (atom_entry text.now h.at) result work.new }
+    requires { (CanAtom text.now work.old h (left_here place function)) × Looks text.now h.at (record { kind = kind; value = value; start = start; end = end }) }
+    ensures { AtomSays text.now work.old h (left_here place function) (atom_entry text.now h.at) result work.new }
 {
-    let sub = h.sub;
-    let s = Left { place, flag, sub };
+    let s = Left { place, function };
     if kind == ROUND {
-        let l = crate::part_level(crate::ELEMENT, s, 0, 0);
+        let l = crate::part_level(Form::Element, s, 0, 0);
         return crate::ask(work, h, l, h.frame, h.top, h.waiting, end);
     }
     if kind == words::PART {
@@ -147,5 +147,15 @@ pub fn application_from(text: &[u8], work: &mut [u16], h: Walk) -> Result<Walk, 
     if w.kind == 0 {
         return Ok(crate::done(h, sub, h.at));
     }
-    atom_at(text, work, h, h.place, 1, w.kind, w.value, w.start, w.end)
+    atom_at(
+        text,
+        work,
+        h,
+        h.place,
+        Some(sub),
+        w.kind,
+        w.value,
+        w.start,
+        w.end,
+    )
 }

@@ -8,7 +8,8 @@ ghost use Rattle.term_parts.specs.Names.{NamesStand, spaced};
 ghost use Rattle.term_walk.specs.Looks.{ReadableFrom};
 ghost use Rattle.term_walk.specs.Steps.{CanEnter, EnterSays, CanBound, CanNames, NameStands, ListStands, Opens, bound_entry, typed_entry, pair_bound_entry, pair_typed_entry, pair_entry, function_entry, fix_bound_entry, fix_typed_entry, fix_entry, value_entry, values_entry, names_entry, let_entry};
 
-use crate::{Walk, lists, looks};
+use crate::lists::Items;
+use crate::{Form, Walk, lists, looks};
 use answers::{Reason, Refusal};
 use scopes::entries;
 use term_parts::{bound, names};
@@ -19,6 +20,9 @@ const ROUND: u8 = 11;
 const EQUALS: u8 = 13;
 
 const COLON: u8 = 15;
+
+// A function of this file takes the walk, the place of its word, its names (an offset and how many, or `Items`) and the offset where it reads on. Each
+// passes on what it has read one by one, since the next needs another part of it: a struct for a step would be made and unpacked once.
 
 // ---- functions
 
@@ -42,7 +46,7 @@ fn bind_function(
     let dot = looks::look(text, at);
     bound::bind_names(text, work, from, count, h.top, ty);
     let l = Level {
-        form: crate::OF_FUNCTION,
+        form: Form::OfFunction as u16,
         flag: 0,
         place: 0,
         count: count as u16,
@@ -80,21 +84,19 @@ fn bind_pair(
     work: &mut [u16],
     h: Walk,
     place: usize,
-    round: usize,
-    from: usize,
-    count: usize,
+    items: Items,
     ty: u16,
     at: usize,
 ) -> Result<Walk, Refusal>
-    requires { (CanBound text.now work.old h ty at) × ListStands text.now round from count }
-    ensures { EnterSays text.now work.old h (pair_bound_entry text.now place round from count ty at) result work.new }
+    requires { (CanBound text.now work.old h ty at) × ListStands text.now items.round items.from items.count }
+    ensures { EnterSays text.now work.old h (pair_bound_entry text.now place items.round items.from items.count ty at) result work.new }
 {
     if !entries::has_room(h.top, 1) {
         return Err(Reason::TextLimit.at(place));
     }
-    bound::bind_name(work, h.top, round, ty);
+    bound::bind_name(work, h.top, items.round, ty);
     let l = Level {
-        form: crate::OF_FUNCTION,
+        form: Form::OfFunction as u16,
         flag: 0,
         place: 0,
         count: 1,
@@ -104,7 +106,7 @@ fn bind_pair(
         next: 0,
     };
     let n = crate::below(work, h, l, h.frame, h.top + 1, h.waiting, at);
-    lists::list_in(text, work, n, round, from, count, at)
+    lists::list_in(text, work, n, items, at)
 }
 
 // Behind the colon: the type of the variable.
@@ -113,16 +115,14 @@ fn pair_type(
     work: &mut [u16],
     h: Walk,
     place: usize,
-    round: usize,
-    from: usize,
-    count: usize,
+    items: Items,
     at: usize,
 ) -> Result<Walk, Refusal>
-    requires { (CanEnter text.now work.old h) × (ReadableFrom text.now at × ListStands text.now round from count) }
-    ensures { EnterSays text.now work.old h (pair_typed_entry text.now place round from count at) result work.new }
+    requires { (CanEnter text.now work.old h) × (ReadableFrom text.now at × ListStands text.now items.round items.from items.count) }
+    ensures { EnterSays text.now work.old h (pair_typed_entry text.now place items.round items.from items.count at) result work.new }
 {
     let t = looks::type_behind(text, work, at, h.more - 1, h.frame, h.top)?;
-    bind_pair(text, work, h, place, round, from, count, t.ty, t.end)
+    bind_pair(text, work, h, place, items, t.ty, t.end)
 }
 
 // Behind `fun (`, whose parenthesis is the first word from an offset on: a list.
@@ -140,7 +140,12 @@ fn pair_from(
 {
     let x = names::count_listed(text, at)?;
     let behind = lists::closed(text, x.end, COLON)?;
-    pair_type(text, work, h, place, round, at, x.count, behind)
+    let items = Items {
+        round,
+        from: at,
+        count: x.count,
+    };
+    pair_type(text, work, h, place, items, behind)
 }
 
 // Behind `fun`: names, or names in parentheses.
@@ -183,7 +188,7 @@ fn bind_fix(
     let dot = looks::look(text, at);
     bound::bind_name(work, h.top, name, ty);
     let l = Level {
-        form: crate::OF_FIX,
+        form: Form::OfFix as u16,
         flag: 0,
         place: name as u16,
         count: 0,
@@ -243,7 +248,7 @@ fn ask_value(
 {
     let equals = looks::look(text, at);
     let l = Level {
-        form: crate::VALUE_OF_NAME,
+        form: Form::ValueOfName as u16,
         flag: 0,
         place: place as u16,
         count: 0,
@@ -269,7 +274,7 @@ fn ask_values(
     ensures { EnterSays text.now work.old h (values_entry text.now place from count at) result work.new }
 {
     let l = Level {
-        form: crate::VALUE_OF_NAMES,
+        form: Form::ValueOfNames as u16,
         flag: 0,
         place: place as u16,
         count: count as u16,

@@ -1,94 +1,111 @@
-// What a level does with the term that it waited for; `h` is the level, with the offset behind the term.
+// What a level does with the term that it waited for; `h` is the level, with the term and the offset behind it.
 ghost use Rattle.std.specs.Prelude.{◌≡◌, ◌+◌, ◌≤◌, ◌<◌, leb};
 ghost use Rattle.notation_calculus.specs.Making.{most_entries};
 ghost use Rattle.term_walk.specs.declared.Phase.{Phase};
-ghost use Rattle.term_walk.specs.Holding.{left_by};
+ghost use Rattle.term_walk.specs.Holding.{sub_in, left_by};
 ghost use Rattle.term_walk.specs.Steps.{CanLeave, LeaveSays, CanMoveTerm, StepSays};
 
-use crate::{Left, Walk, atoms, lists, looks};
+use crate::{Form, Left, Walk, atoms, lists, looks};
 use answers::{Reason, Refusal};
 use made_nodes::Sub;
-use made_types::wide;
 use scopes::entries;
 use term_parts::halves::Half;
+use term_parts::joined::Joint;
 use term_parts::{apart, bound, halves, joined};
 use walk_levels::Level;
 
 const COMMA: u8 = 14;
 
+// The term that stands in the level.
+fn term_of(l: Level) -> Sub
+    ensures { result ≡ sub_in l }
+{
+    Sub {
+        node: l.node,
+        ty: l.ty,
+        deep: l.deep,
+    }
+}
+
 // What stands left of the atom that the level waited for.
 fn left_of(l: Level) -> Left
     ensures { result ≡ left_by l }
 {
+    let function = if l.flag == 0 { None } else { Some(term_of(l)) };
     Left {
         place: l.place,
-        flag: l.flag,
-        sub: Sub {
-            node: l.node,
-            ty: l.ty,
-            deep: l.deep,
-        },
+        function,
     }
 }
 
+// The functions from here to `leave_by` take the walk and the level that it is at; the level is read once, in `leave`.
+
 // ---- binders
 
-fn leave_function(text: &[u8], work: &mut [u16], h: Walk, l: Level, x: Sub) -> Result<Walk, Refusal>
-    requires { (CanLeave text.now work.old h l x) × (l.form ≡ 1) }
-    ensures { LeaveSays text.now work.old h l x result work.new }
+fn leave_function(text: &[u8], work: &mut [u16], h: Walk, l: Level) -> Result<Walk, Refusal>
+    requires { (CanLeave text.now work.old h l h.sub) × (l.form ≡ 1) }
+    ensures { LeaveSays text.now work.old h l h.sub result work.new }
 {
-    let made = made_nodes::binders::functions(work, h.top as u16, l.count, l.ty, x)?;
+    let made = made_nodes::binders::functions(work, h.top as u16, l.count, l.ty, h.sub)?;
     Ok(crate::done(h, made, h.at))
 }
 
-fn leave_fix(text: &[u8], work: &mut [u16], h: Walk, l: Level, x: Sub) -> Result<Walk, Refusal>
-    requires { (CanLeave text.now work.old h l x) × (l.form ≡ 2) }
-    ensures { LeaveSays text.now work.old h l x result work.new }
+fn leave_fix(text: &[u8], work: &mut [u16], h: Walk, l: Level) -> Result<Walk, Refusal>
+    requires { (CanLeave text.now work.old h l h.sub) × (l.form ≡ 2) }
+    ensures { LeaveSays text.now work.old h l h.sub result work.new }
 {
-    let made = made_nodes::binders::fixed_point(work, l.place, l.ty, x)?;
+    let made = made_nodes::binders::fixed_point(work, l.place, l.ty, h.sub)?;
     Ok(crate::done(h, made, h.at))
 }
 
 // ---- names for terms
 
 // The name is bound to its value, and the body is wanted behind `in`.
-fn bind_value(text: &[u8], work: &mut [u16], h: Walk, l: Level, x: Sub) -> Result<Walk, Refusal>
-    requires { (CanLeave text.now work.old h l x) × ((l.form ≡ 3) × (h.top + 1 ≤ most_entries)) }
-    ensures { LeaveSays text.now work.old h l x result work.new }
+fn bind_value(text: &[u8], work: &mut [u16], h: Walk, l: Level) -> Result<Walk, Refusal>
+    requires { (CanLeave text.now work.old h l h.sub) × ((l.form ≡ 3) × (h.top + 1 ≤ most_entries)) }
+    ensures { LeaveSays text.now work.old h l h.sub result work.new }
 {
     let within = looks::look(text, h.at);
-    bound::bind_name(work, h.top, wide(l.next), x.ty);
+    bound::bind_name(work, h.top, usize::from(l.next), h.sub.ty);
     let after = Level {
-        form: crate::UNDER_NAME,
+        form: Form::UnderName as u16,
         flag: 0,
         place: l.next,
         count: 0,
-        node: x.node,
-        ty: x.ty,
-        deep: x.deep,
+        node: h.sub.node,
+        ty: h.sub.ty,
+        deep: h.sub.deep,
         next: 0,
     };
     crate::ask(work, h, after, h.frame, h.top + 1, h.waiting, within.end)
 }
 
-fn leave_value(text: &[u8], work: &mut [u16], h: Walk, l: Level, x: Sub) -> Result<Walk, Refusal>
-    requires { (CanLeave text.now work.old h l x) × (l.form ≡ 3) }
-    ensures { LeaveSays text.now work.old h l x result work.new }
+fn leave_value(text: &[u8], work: &mut [u16], h: Walk, l: Level) -> Result<Walk, Refusal>
+    requires { (CanLeave text.now work.old h l h.sub) × (l.form ≡ 3) }
+    ensures { LeaveSays text.now work.old h l h.sub result work.new }
 {
     if entries::has_room(h.top, 1) {
-        return bind_value(text, work, h, l, x);
+        return bind_value(text, work, h, l);
     }
-    Err(Reason::TextLimit.at(wide(l.place)))
+    Err(Reason::TextLimit.at(usize::from(l.place)))
 }
 
 // The value is taken apart and its names are bound, for the body; the next list in this one is taken apart there.
-fn take_apart(text: &[u8], work: &mut [u16], h: Walk, l: Level, x: Sub) -> Result<Walk, Refusal>
-    requires { (CanLeave text.now work.old h l x) × ((l.form ≡ 4) × (h.top + (l.count + l.count) ≤ most_entries)) }
-    ensures { LeaveSays text.now work.old h l x result work.new }
+fn take_apart(text: &[u8], work: &mut [u16], h: Walk, l: Level) -> Result<Walk, Refusal>
+    requires { (CanLeave text.now work.old h l h.sub) × ((l.form ≡ 4) × (h.top + (l.count + l.count) ≤ most_entries)) }
+    ensures { LeaveSays text.now work.old h l h.sub result work.new }
 {
-    let a = apart::apart(text, work, wide(l.next), wide(l.count), h.top, h.waiting, x)?;
+    let a = apart::apart(
+        text,
+        work,
+        usize::from(l.next),
+        usize::from(l.count),
+        h.top,
+        h.waiting,
+        h.sub,
+    )?;
     let after = Level {
-        form: crate::UNDER_NAMES,
+        form: Form::UnderNames as u16,
         flag: 0,
         place: 0,
         count: (a.waiting - h.waiting) as u16,
@@ -98,7 +115,7 @@ fn take_apart(text: &[u8], work: &mut [u16], h: Walk, l: Level, x: Sub) -> Resul
         next: 0,
     };
     let n = crate::below(work, h, after, h.frame, a.top, a.waiting, h.at);
-    lists::under_lists(text, work, n, wide(l.next), h.at)
+    lists::under_lists(text, work, n, usize::from(l.next), h.at)
 }
 
 // There is room for two entries a name.
@@ -109,110 +126,86 @@ fn room_for_pairs(top: usize, count: usize) -> bool
     top + (count + count) <= 1024
 }
 
-fn leave_values(text: &[u8], work: &mut [u16], h: Walk, l: Level, x: Sub) -> Result<Walk, Refusal>
-    requires { (CanLeave text.now work.old h l x) × (l.form ≡ 4) }
-    ensures { LeaveSays text.now work.old h l x result work.new }
+fn leave_values(text: &[u8], work: &mut [u16], h: Walk, l: Level) -> Result<Walk, Refusal>
+    requires { (CanLeave text.now work.old h l h.sub) × (l.form ≡ 4) }
+    ensures { LeaveSays text.now work.old h l h.sub result work.new }
 {
-    let count = wide(l.count);
+    let count = usize::from(l.count);
     if room_for_pairs(h.top, count) {
-        return take_apart(text, work, h, l, x);
+        return take_apart(text, work, h, l);
     }
-    Err(Reason::TextLimit.at(wide(l.place)))
+    Err(Reason::TextLimit.at(usize::from(l.place)))
 }
 
-fn leave_name(text: &[u8], work: &mut [u16], h: Walk, l: Level, x: Sub) -> Result<Walk, Refusal>
-    requires { (CanLeave text.now work.old h l x) × (l.form ≡ 5) }
-    ensures { LeaveSays text.now work.old h l x result work.new }
+fn leave_name(text: &[u8], work: &mut [u16], h: Walk, l: Level) -> Result<Walk, Refusal>
+    requires { (CanLeave text.now work.old h l h.sub) × (l.form ≡ 5) }
+    ensures { LeaveSays text.now work.old h l h.sub result work.new }
 {
-    let v = Sub {
-        node: l.node,
-        ty: l.ty,
-        deep: l.deep,
-    };
-    let made = made_nodes::binders::naming(work, l.place, v, x)?;
+    let made = made_nodes::binders::naming(work, l.place, term_of(l), h.sub)?;
     Ok(crate::done(h, made, h.at))
 }
 
-fn leave_names(text: &[u8], work: &mut [u16], h: Walk, l: Level, x: Sub) -> Result<Walk, Refusal>
-    requires { (CanLeave text.now work.old h l x) × (l.form ≡ 6) }
-    ensures { LeaveSays text.now work.old h l x result work.new }
+fn leave_names(text: &[u8], work: &mut [u16], h: Walk, l: Level) -> Result<Walk, Refusal>
+    requires { (CanLeave text.now work.old h l h.sub) × (l.form ≡ 6) }
+    ensures { LeaveSays text.now work.old h l h.sub result work.new }
 {
-    let made = joined::projections(work, h.waiting, wide(l.count), x)?;
+    let made = joined::join(
+        work,
+        Joint::Projection,
+        h.waiting,
+        usize::from(l.count),
+        h.sub,
+    )?;
     Ok(crate::done(h, made, h.at))
 }
 
 // ---- tuples
 
 // Behind an element: a comma, before which it waits, and the next is wanted; or the closing parenthesis, and the tuple is an atom.
-fn leave_element(text: &[u8], work: &mut [u16], h: Walk, l: Level, x: Sub) -> Result<Walk, Refusal>
-    requires { (CanLeave text.now work.old h l x) × (l.form ≡ 7) }
-    ensures { LeaveSays text.now work.old h l x result work.new }
+fn leave_element(text: &[u8], work: &mut [u16], h: Walk, l: Level) -> Result<Walk, Refusal>
+    requires { (CanLeave text.now work.old h l h.sub) × (l.form ≡ 7) }
+    ensures { LeaveSays text.now work.old h l h.sub result work.new }
 {
     let w = looks::look(text, h.at);
     if w.kind != COMMA {
-        let made = joined::pairs(work, h.waiting, wide(l.count), x)?;
+        let made = joined::join(work, Joint::Pair, h.waiting, usize::from(l.count), h.sub)?;
         return atoms::behind_atom(work, h, left_of(l), made, w.end);
     }
     let half = Half {
-        node: x.node,
-        ty: x.ty,
-        deep: x.deep,
+        node: h.sub.node,
+        ty: h.sub.ty,
+        deep: h.sub.deep,
         place: w.start as u16,
     };
-    let i = h.waiting + wide(l.count);
+    let i = h.waiting + usize::from(l.count);
     halves::put_half(work, i, half);
-    let after = crate::part_level(crate::ELEMENT, left_of(l), l.count + 1, 0);
+    let after = crate::part_level(Form::Element, left_of(l), l.count + 1, 0);
     crate::ask(work, h, after, h.frame, h.top, i + 1, w.end)
 }
 
-fn leave_definition(
-    text: &[u8],
-    work: &mut [u16],
-    h: Walk,
-    l: Level,
-    x: Sub,
-) -> Result<Walk, Refusal>
-    requires { (CanLeave text.now work.old h l x) × (l.form ≡ 8) }
-    ensures { LeaveSays text.now work.old h l x result work.new }
+fn leave_definition(text: &[u8], work: &mut [u16], h: Walk, l: Level) -> Result<Walk, Refusal>
+    requires { (CanLeave text.now work.old h l h.sub) × (l.form ≡ 8) }
+    ensures { LeaveSays text.now work.old h l h.sub result work.new }
 {
-    atoms::behind_atom(work, h, left_of(l), x, wide(l.next))
+    atoms::behind_atom(work, h, left_of(l), h.sub, usize::from(l.next))
 }
 
 // ---- every form
 
-fn leave_let(text: &[u8], work: &mut [u16], h: Walk, l: Level, x: Sub) -> Result<Walk, Refusal>
-    requires { (CanLeave text.now work.old h l x) × ((3 ≤ l.form) × (l.form ≤ 6)) }
-    ensures { LeaveSays text.now work.old h l x result work.new }
+fn leave_by(text: &[u8], work: &mut [u16], h: Walk, l: Level) -> Result<Walk, Refusal>
+    requires { CanLeave text.now work.old h l h.sub }
+    ensures { LeaveSays text.now work.old h l h.sub result work.new }
 {
-    if l.form == crate::VALUE_OF_NAME {
-        return leave_value(text, work, h, l, x);
+    match Form::of(l.form) {
+        Form::OfFunction => leave_function(text, work, h, l),
+        Form::OfFix => leave_fix(text, work, h, l),
+        Form::ValueOfName => leave_value(text, work, h, l),
+        Form::ValueOfNames => leave_values(text, work, h, l),
+        Form::UnderName => leave_name(text, work, h, l),
+        Form::UnderNames => leave_names(text, work, h, l),
+        Form::Element => leave_element(text, work, h, l),
+        Form::OfDefinition => leave_definition(text, work, h, l),
     }
-    if l.form == crate::VALUE_OF_NAMES {
-        return leave_values(text, work, h, l, x);
-    }
-    if l.form == crate::UNDER_NAME {
-        return leave_name(text, work, h, l, x);
-    }
-    leave_names(text, work, h, l, x)
-}
-
-fn leave_by(text: &[u8], work: &mut [u16], h: Walk, l: Level, x: Sub) -> Result<Walk, Refusal>
-    requires { CanLeave text.now work.old h l x }
-    ensures { LeaveSays text.now work.old h l x result work.new }
-{
-    if l.form == crate::OF_FUNCTION {
-        return leave_function(text, work, h, l, x);
-    }
-    if l.form == crate::OF_FIX {
-        return leave_fix(text, work, h, l, x);
-    }
-    if l.form == crate::ELEMENT {
-        return leave_element(text, work, h, l, x);
-    }
-    if l.form == crate::OF_DEFINITION {
-        return leave_definition(text, work, h, l, x);
-    }
-    leave_let(text, work, h, l, x)
 }
 
 // The term came that the nearest level waited for.
@@ -227,12 +220,12 @@ pub fn leave(text: &[u8], work: &mut [u16], n: Walk) -> Result<Walk, Refusal>
     let h = Walk {
         phase: crate::Phase::Came,
         more: m,
-        frame: wide(s.frame),
-        top: wide(s.top),
-        waiting: wide(s.waiting),
+        frame: usize::from(s.frame),
+        top: usize::from(s.top),
+        waiting: usize::from(s.waiting),
         place: 0,
         sub,
         at: n.at,
     };
-    leave_by(text, work, h, l, sub)
+    leave_by(text, work, h, l)
 }

@@ -1,8 +1,8 @@
 // The walk over a term of a text: one loop, each round of which does one step of the machine of terms.
 #![tactic(auto)]
 
-ghost use Rattle.std.specs.Prelude.{◌≡◌};
-ghost use Rattle.term_walk.specs.Steps.{nothing_sub, walk_at, part_level, done_walk, applying_walk, CanAskTerm, Below, Asks};
+ghost use Rattle.std.specs.Prelude.{◌≡◌, ◌≤◌};
+ghost use Rattle.term_walk.specs.Steps.{nothing_sub, form_number, walk_at, part_level, done_walk, applying_walk, CanAskTerm, Below, Asks};
 
 use answers::Refusal;
 use made_nodes::Sub;
@@ -43,27 +43,41 @@ pub struct Walk {
 #[derive(Clone, Copy)]
 pub struct Left {
     pub place: u16,
-    pub flag: u16,
-    pub sub: Sub,
+    pub function: Option<Sub>,
 }
 
-// ---- the forms of levels
+// What a level waits for: the body of a function or of a fixed point; the value of a name or of names; the body under a name or names; an
+// element of a tuple; or the body of a definition. A level has the form's number in the working memory.
+#[derive(Clone, Copy, Debug, PartialEq, Eq)]
+pub enum Form {
+    OfFunction = 1,
+    OfFix = 2,
+    ValueOfName = 3,
+    ValueOfNames = 4,
+    UnderName = 5,
+    UnderNames = 6,
+    Element = 7,
+    OfDefinition = 8,
+}
 
-pub const OF_FUNCTION: u16 = 1;
-
-pub const OF_FIX: u16 = 2;
-
-pub const VALUE_OF_NAME: u16 = 3;
-
-pub const VALUE_OF_NAMES: u16 = 4;
-
-pub const UNDER_NAME: u16 = 5;
-
-pub const UNDER_NAMES: u16 = 6;
-
-pub const ELEMENT: u16 = 7;
-
-pub const OF_DEFINITION: u16 = 8;
+impl Form {
+    // The form of a number: levels stand in the memory as numbers, of which `WishHeld` speaks.
+    pub fn of(number: u16) -> Form
+        requires { (1 ≤ number) × (number ≤ 8) }
+        ensures { form_number result ≡ number }
+    {
+        match number {
+            1 => Form::OfFunction,
+            2 => Form::OfFix,
+            3 => Form::ValueOfName,
+            4 => Form::ValueOfNames,
+            5 => Form::UnderName,
+            6 => Form::UnderNames,
+            7 => Form::Element,
+            _ => Form::OfDefinition,
+        }
+    }
+}
 
 // No term.
 pub fn nothing() -> Sub
@@ -77,17 +91,21 @@ pub fn nothing() -> Sub
 }
 
 // A level that waits for a part of an application: the function so far stays.
-pub fn part_level(form: u16, s: Left, count: u16, next: u16) -> Level
-    ensures { result ≡ part_level form s count next }
+pub fn part_level(form: Form, s: Left, count: u16, next: u16) -> Level
+    ensures { result ≡ part_level (form_number form) s count next }
 {
+    let (flag, sub) = match s.function {
+        None => (0, nothing()),
+        Some(f) => (1, f),
+    };
     Level {
-        form,
-        flag: s.flag,
+        form: form as u16,
+        flag,
         place: s.place,
         count,
-        node: s.sub.node,
-        ty: s.sub.ty,
-        deep: s.sub.deep,
+        node: sub.node,
+        ty: sub.ty,
+        deep: sub.deep,
         next,
     }
 }
@@ -131,13 +149,10 @@ pub fn wanted(n: Walk, at: usize) -> Walk
 {
     Walk {
         phase: Phase::Wanted,
-        more: n.more,
-        frame: n.frame,
-        top: n.top,
-        waiting: n.waiting,
         place: 0,
         sub: nothing(),
         at,
+        ..n
     }
 }
 
@@ -162,13 +177,10 @@ pub fn done(h: Walk, sub: Sub, at: usize) -> Walk
 {
     Walk {
         phase: Phase::Came,
-        more: h.more,
-        frame: h.frame,
-        top: h.top,
-        waiting: h.waiting,
         place: 0,
         sub,
         at,
+        ..h
     }
 }
 
@@ -178,12 +190,9 @@ pub fn applies(h: Walk, begins: u16, sub: Sub, at: usize) -> Walk
 {
     Walk {
         phase: Phase::Applying,
-        more: h.more,
-        frame: h.frame,
-        top: h.top,
-        waiting: h.waiting,
         place: begins,
         sub,
         at,
+        ..h
     }
 }

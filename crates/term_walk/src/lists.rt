@@ -5,13 +5,21 @@ ghost use Rattle.grammar.specs.Ends.{Ends};
 ghost use Rattle.term_walk.specs.Looks.{ReadableFrom};
 ghost use Rattle.term_walk.specs.Steps.{closed_by, CanBound, EnterSays, ListStands, list_made_entry, CanBody, BodySays, list_in_body, under_lists_body};
 
-use crate::{Walk, looks};
+use crate::{Form, Walk, looks};
 use answers::{Reason, Refusal};
 use grammar::steps;
 use term_parts::{names, variables};
 use walk_levels::Level;
 
 const END_ROUND: u8 = 12;
+
+// The items of a list in a text: the place of its parenthesis, the offset behind that, and how many there are.
+#[derive(Clone, Copy)]
+pub struct Items {
+    pub round: usize,
+    pub from: usize,
+    pub count: usize,
+}
 
 // Behind the items of a list: the closing parenthesis, and the sign of a code.
 pub fn closed(text: &[u8], at: usize, sign: u8) -> Result<usize, Refusal>
@@ -27,31 +35,29 @@ fn list_made(
     text: &[u8],
     work: &mut [u16],
     h: Walk,
-    round: usize,
-    from: usize,
-    count: usize,
+    items: Items,
     number: u16,
     ty: u16,
     at: usize,
 ) -> Result<Walk, Refusal>
-    requires { (CanBound text.now work.old h ty at) × ListStands text.now round from count }
-    ensures { EnterSays text.now work.old h (list_made_entry text.now round from count number ty at) result work.new }
+    requires { (CanBound text.now work.old h ty at) × ListStands text.now items.round items.from items.count }
+    ensures { EnterSays text.now work.old h (list_made_entry text.now items.round items.from items.count number ty at) result work.new }
 {
     if h.more == 1 {
-        return Err(Reason::TextLimit.at(round));
+        return Err(Reason::TextLimit.at(items.round));
     }
     let l = Level {
-        form: crate::VALUE_OF_NAMES,
+        form: Form::ValueOfNames as u16,
         flag: 0,
-        place: round as u16,
-        count: count as u16,
+        place: items.round as u16,
+        count: items.count as u16,
         node: 0,
         ty: 0,
         deep: 0,
-        next: from as u16,
+        next: items.from as u16,
     };
     let n = crate::below(work, h, l, h.frame, h.top, h.waiting, at);
-    let made = made_nodes::leaves::variable(work, number, ty, round as u16)?;
+    let made = made_nodes::leaves::variable(work, number, ty, items.round as u16)?;
     Ok(crate::done(n, made, at))
 }
 
@@ -60,21 +66,19 @@ pub fn list_in(
     text: &[u8],
     work: &mut [u16],
     n: Walk,
-    round: usize,
-    from: usize,
-    count: usize,
+    items: Items,
     at: usize,
 ) -> Result<Walk, Refusal>
-    requires { (CanBody text.now work.old n) × (ReadableFrom text.now at × ListStands text.now round from count) }
-    ensures { BodySays text.now work.old n (list_in_body text.now round from count at) result work.new }
+    requires { (CanBody text.now work.old n) × (ReadableFrom text.now at × ListStands text.now items.round items.from items.count) }
+    ensures { BodySays text.now work.old n (list_in_body text.now items.round items.from items.count at) result work.new }
 {
     if n.more == 0 {
-        return Err(Reason::TextLimit.at(round));
+        return Err(Reason::TextLimit.at(items.round));
     }
-    let Some(v) = variables::list_at(work, round, n.frame, n.top) else {
-        return Err(Reason::OtherWordDue.at(round));
+    let Some(v) = variables::list_at(work, items.round, n.frame, n.top) else {
+        return Err(Reason::OtherWordDue.at(items.round));
     };
-    list_made(text, work, n, round, from, count, v.number, v.ty, at)
+    list_made(text, work, n, items, v.number, v.ty, at)
 }
 
 // The body of names that were bound, before `in` or a dot: the next list of those that begin at an offset is taken apart in it, or it is wanted.
@@ -93,5 +97,10 @@ pub fn under_lists(
         return Ok(crate::wanted(n, within.end));
     };
     let x = names::count_listed(text, l.end)?;
-    list_in(text, work, n, l.place, l.end, x.count, at)
+    let items = Items {
+        round: l.place,
+        from: l.end,
+        count: x.count,
+    };
+    list_in(text, work, n, items, at)
 }

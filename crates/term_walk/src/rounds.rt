@@ -23,26 +23,22 @@ fn enter(text: &[u8], work: &mut [u16], h: Walk) -> Result<Walk, Refusal>
     if h.more == 0 {
         return Err(Reason::TextLimit.at(w.start));
     }
-    if w.kind == FUN {
-        return binders::function_from(text, work, h, w.start, w.end);
+    match w.kind {
+        FUN => binders::function_from(text, work, h, w.start, w.end),
+        FIX => binders::fix_from(text, work, h, w.start, w.end),
+        LET => binders::let_from(text, work, h, w.start, w.end),
+        _ => atoms::atom_at(
+            text,
+            work,
+            h,
+            w.start as u16,
+            None,
+            w.kind,
+            w.value,
+            w.start,
+            w.end,
+        ),
     }
-    if w.kind == FIX {
-        return binders::fix_from(text, work, h, w.start, w.end);
-    }
-    if w.kind == LET {
-        return binders::let_from(text, work, h, w.start, w.end);
-    }
-    atoms::atom_at(
-        text,
-        work,
-        h,
-        w.start as u16,
-        0,
-        w.kind,
-        w.value,
-        w.start,
-        w.end,
-    )
 }
 
 // One step.

@@ -28,9 +28,10 @@ use Rattle.words.specs.Next.{Said, run_at}
 use Rattle.words.specs.Lexed.{from, Lexed, Stands}
 use Rattle.grammar.proofs.EndLaws.{sign_not, is_yes, is_no}
 use Rattle.making_memory.specs.Map.{scope_at, type_count_at, node_count_at, put_count_at, making_size}
+use Rattle.made_types.specs.declared.Kind.{Kind}
 use Rattle.made_types.specs.declared.Record.{Record}
 use Rattle.made_types.specs.Held.{HoldsState}
-use Rattle.made_types.specs.Listing.{rec_of_kind, record_of_lem, Listable, FoundIn, ListedSays}
+use Rattle.made_types.specs.Listing.{kind_byte, rec_of_kind, record_of_lem, Listable, FoundIn, ListedSays}
 use Rattle.made_types.proofs.Keeping.{state_kept}
 use Rattle.clauses.specs.Meant.{values_in}
 use Rattle.scopes.specs.Entries.{place_in, value_at, Places, OnlyEntries, with_entry}
@@ -48,7 +49,7 @@ use Rattle.type_walk.specs.declared.levels.Here.{Here}
 use Rattle.type_walk.specs.declared.levels.Walking as code
 use Rattle.type_walk.specs.declared.levels.Walking.TheVariants as walking
 use Rattle.type_walk.specs.Holding.{given_from, AllBelow, LevelHeld, LevelsHeld, here_with, here_in, AtLevel, Wanting, Coming}
-use Rattle.type_walk.specs.Moves.{CanMove, Waited, Moving, Moved, Known, found_in_lem, Given, Valued, Both, Anything, NameAt, form_by, side_after, arrow_after, done_after, ones_after, argument_ask, put_after, named_after, inside_ask, enter_at, left_with, side_done, CanStep, Stepped}
+use Rattle.type_walk.specs.Moves.{CanMove, Waited, Moving, Moved, Known, found_in_lem, Given, Valued, Both, Anything, NameAt, form_by, kind_by, side_after, arrow_after, done_after, ones_after, argument_ask, put_after, named_after, inside_ask, enter_at, left_with, side_done, CanStep, Stepped}
 use Rattle.type_walk.proofs.HoldLaws.{at_on, walked-wider, levels_within}
 use Rattle.type_walk.proofs.AskLaws.{can_wait, ask_held, places-none, waited_moved}
 use Rattle.type_walk.proofs.MoveLaws.{onward, answered_as, moved_as, moved_after, refused_moved}
@@ -279,15 +280,25 @@ by_form P a b c n low high = elim (dec_le 4 n) [
 ]
 
 -- the record of a form, as the table's code has it
-form_record : (form a b : ℕ) → 3 ≤ form → form ≤ 5 → form_of (form_by form) a b ≡ rec_of_kind (form - 1) a b
-form_record form a b low high = by_form (λ (n : ℕ). form_of (form_by n) a b ≡ rec_of_kind (n - 1) a b) refl refl refl form low high
+form_record : (form a b : ℕ) → 3 ≤ form → form ≤ 5 → form_of (form_by form) a b ≡ rec_of_kind (kind_byte (kind_by form)) a b
+form_record form a b low high = by_form (λ (n : ℕ). form_of (form_by n) a b ≡ rec_of_kind (kind_byte (kind_by n)) a b) refl refl refl form low high
 
-form_below : (k form a b : ℕ) → 3 ≤ form → form ≤ 5 → a < k → b < k → Below k (rec_of_kind (form - 1) a b)
-form_below k form a b low high x y = by_form (λ (n : ℕ). Below k (rec_of_kind (n - 1) a b)) (x, y) (x, y) (x, y) form low high
+form_below : (k form a b : ℕ) → 3 ≤ form → form ≤ 5 → a < k → b < k → Below k (rec_of_kind (kind_byte (kind_by form)) a b)
+form_below k form a b low high x y = by_form (λ (n : ℕ). Below k (rec_of_kind (kind_byte (kind_by n)) a b)) (x, y) (x, y) (x, y) form low high
+
+form_lists : (form : ℕ) → 3 ≤ form → form ≤ 5 → 2 ≤ kind_byte (kind_by form)
+form_lists form low high = by_form (λ (n : ℕ). 2 ≤ kind_byte (kind_by n)) (omega arith) (omega arith) (omega arith) form low high
+
+-- .. of the same kind
+pub listable_as : (w : List ℕ) (k k' : Kind) (a b : ℕ) → k ≡ k' → Listable w (record { kind = k'; left = a; right = b }) → Listable w (record { kind = k; left = a; right = b })
+listable_as w k k' a b e L = subst (λ (q : Kind). Listable w (record { kind = q; left = a; right = b })) (sym e) L
+
+pub listed_as : (w : List ℕ) (k k' : Kind) (a b place : ℕ) (x : Result ℕ Refusal) (w' : List ℕ) → k ≡ k' → ListedSays w (record { kind = k; left = a; right = b }) place x w' → ListedSays w (record { kind = k'; left = a; right = b }) place x w'
+listed_as w k k' a b place x w' e L = subst (λ (q : Kind). ListedSays w (record { kind = q; left = a; right = b }) place x w') e L
 
 module _ (text w w₁ : List ℕ) (h : Here) (l : Level) (ty at : ℕ) (low : 3 ≤ l.form) (high : l.form ≤ 5) where
   abbrev rec : Record
-  rec = record { kind = l.form - 1; left = l.ty; right = ty }
+  rec = record { kind = kind_by l.form; left = l.ty; right = ty }
 
   abbrev P : State → Type 0
   P = Both (Known l.ty) (Known ty)
@@ -297,7 +308,7 @@ module _ (text w w₁ : List ℕ) (h : Here) (l : Level) (ty at : ℕ) (low : 3 
       let H = C.held.walkable.state.types in
       let few = H.ok.few in
       let k = C.known in
-      record { room = H.room; count = omega (arith, H.count); form = omega arith; known = omega arith; left = omega (arith, k.0); right = omega (arith, k.1) }
+      record { room = H.room; count = omega (arith, H.count); form = form_lists l.form low high; left = omega (arith, k.0); right = omega (arith, k.1) }
 
   abbrev answer : State → Answer Found
   answer σ = listed σ (record_of_lem rec) l.place

@@ -6,14 +6,14 @@ ghost use Rattle.words.specs.Lexed.{Lexed};
 ghost use Rattle.scopes.specs.Entries.{Places};
 ghost use Rattle.walks.specs.Says.{bound_at};
 ghost use Rattle.type_walk.specs.Holding.{given_from};
-ghost use Rattle.type_walk.specs.Moves.{CanMove, Moved, Known, Given, Both, Anything, inside_ask, enter_at, left_with, side_done, form_by, CanStep, Stepped};
+ghost use Rattle.type_walk.specs.Moves.{CanMove, Moved, Known, Given, Both, Anything, inside_ask, enter_at, left_with, side_done, form_by, kind_by, CanStep, Stepped};
 ghost use Rattle.type_walk.specs.declared.levels.Walking.TheVariants as walking;
 
 use crate::levels::{Come, Here, Walking, Want};
 use crate::{levels, names, rows, sides};
 use answers::{Reason, Refusal};
 use grammar::steps::{COMMA, END_SQUARE};
-use made_types::Record;
+use made_types::{Kind, Record};
 use walk_levels::Level;
 
 const ROUND: u8 = 11;
@@ -143,6 +143,17 @@ fn after_side(
     Ok(sides::done(h, ty, at))
 }
 
+// The kind of the type whose other side waits at a level of a form.
+fn kind_by(form: u16) -> Kind
+    ensures { result ≡ kind_by form }
+{
+    match form {
+        3 => Kind::Product,
+        4 => Kind::Arrow,
+        _ => Kind::Linear,
+    }
+}
+
 // Both sides of a sign are there, and are listed.
 fn behind_side(
     text: &[u8],
@@ -156,7 +167,7 @@ fn behind_side(
     ensures { Moved text.now work.old h (Both (Known l.ty) (Known ty)) (left_with text.now (other (form_by l.form) l.place l.ty) ty at) result work.new }
 {
     let r = Record {
-        kind: l.form - 1,
+        kind: kind_by(l.form),
         left: l.ty,
         right: ty,
     };

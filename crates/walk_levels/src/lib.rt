@@ -14,6 +14,8 @@ pub const SCOPES: usize = 32400;
 
 // What is done with what comes: a form; a flag; the offset of a word; how many names, arguments or elements there are; a node, its type and
 // its depth; and an offset in the text, or a node.
+// The form and the flag stay numbers: `level_at` promises the memory's numbers whatever they are (`level_in`), and two walks have forms of their own
+// (`term_walk::Form` and those of type_walk).
 #[derive(Clone, Copy, Debug, PartialEq, Eq)]
 pub struct Level {
     pub form: u16,

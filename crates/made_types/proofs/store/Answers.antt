@@ -17,4 +17,4 @@ pub bounds-work-31232 : goal.bounds-work-31232
 bounds-work-31232 c = simp length-set (omega arith)
 
 pub returns : goal.returns
-returns c = rw (add-one, add-two, add-three)
+returns c = rw (c.number.ensures, add-one, add-two, add-three)

@@ -14,8 +14,8 @@ returns-in_err-s c =
 
 pub written-requires : goal.written-requires
 written-requires c =
-    run-stands c.args.text.now c.args.out.now c.args.places.now c.args.work.now (omega arith) _ _ c.in_ok-s.ensures c.wide.result c.wide.ensures
+    run-stands c.args.text.now c.args.out.now c.args.places.now c.args.work.now (omega arith) _ _ c.in_ok-s.ensures c.from.result c.from.ensures
 
 pub returns : goal.returns
 returns c =
-    run-written c.args.text.now c.args.out.now c.args.places.now c.args.work.now (omega arith) _ _ c.in_ok-s.ensures c.wide.result c.wide.ensures c.written.result _ _ c.written.ensures
+    run-written c.args.text.now c.args.out.now c.args.places.now c.args.work.now (omega arith) _ _ c.in_ok-s.ensures c.from.result c.from.ensures c.written.result _ _ c.written.ensures

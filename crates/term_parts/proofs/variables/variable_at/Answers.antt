@@ -2,7 +2,7 @@
 use Rattle.term_parts.proofs.LookFor.{look-nowhere, look-here, look-within}
 use Rattle.scopes.specs.Entries.{last_named}
 use Rattle.scopes.specs.declared.frames.Frame.{Frame}
-use mathlib.Core.Path.{◌∙◌, ap}
+use mathlib.Core.Path.{refl, ◌∙◌, ap}
 use Prim.Native.Nat.{◌-◌}
 use native.Mathlib.Omega.{arith}
 use Rattle.term_parts.proofs.variables.variable_at.Goals as goal
@@ -16,11 +16,8 @@ returns-then-e-f c = look-nowhere c.args.text.now c.args.work.now c.args.name c.
 pub value_of-v-requires : goal.value_of-v-requires
 value_of-v-requires c = let w = look-within c.args.text.now c.args.work.now c.args.name c.args.frame c.args.top c.last_of-e.result (c.last_of-e.ensures ∙ ap (λ (g : Frame). last_named c.args.text.now c.args.work.now c.args.name g.variables (c.args.top - g.variables)) c.frame_at-f.ensures) c.requires in let m = c.requires.places.most in (omega arith, c.requires.places.room)
 
-pub overflow_sub-top : goal.overflow_sub-top
-overflow_sub-top c = look-within c.args.text.now c.args.work.now c.args.name c.args.frame c.args.top c.last_of-e.result (c.last_of-e.ensures ∙ ap (λ (g : Frame). last_named c.args.text.now c.args.work.now c.args.name g.variables (c.args.top - g.variables)) c.frame_at-f.ensures) c.requires
-
-pub narrow-requires : goal.narrow-requires
-narrow-requires c = let m = c.requires.places.most in omega arith
+pub overflow_sub-result : goal.overflow_sub-result
+overflow_sub-result c = look-within c.args.text.now c.args.work.now c.args.name c.args.frame c.args.top c.last_of-e.result (c.last_of-e.ensures ∙ ap (λ (g : Frame). last_named c.args.text.now c.args.work.now c.args.name g.variables (c.args.top - g.variables)) c.frame_at-f.ensures) c.requires
 
 pub returns : goal.returns
-returns c = look-here c.args.text.now c.args.work.now c.args.name c.args.frame c.args.top c.last_of-e.result (c.last_of-e.ensures ∙ ap (λ (g : Frame). last_named c.args.text.now c.args.work.now c.args.name g.variables (c.args.top - g.variables)) c.frame_at-f.ensures) c.requires (λ h. absurd (omega (arith, c.if-e-f.false, ap (λ (g : Frame). g.variables) c.frame_at-f.ensures))) _ _ c.narrow.ensures (c.narrow-2.ensures ∙ c.value_of-v.ensures.0)
+returns c = look-here c.args.text.now c.args.work.now c.args.name c.args.frame c.args.top c.last_of-e.result (c.last_of-e.ensures ∙ ap (λ (g : Frame). last_named c.args.text.now c.args.work.now c.args.name g.variables (c.args.top - g.variables)) c.frame_at-f.ensures) c.requires (λ h. absurd (omega (arith, c.if-e-f.false, ap (λ (g : Frame). g.variables) c.frame_at-f.ensures))) _ _ refl c.value_of-v.ensures.0

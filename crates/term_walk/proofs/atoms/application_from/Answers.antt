@@ -22,7 +22,7 @@ atom_at-requires c =
       record {
         can = record { X = p.X; most = p.most; bottom = p.bottom; k = p.k; S = p.S; σ = p.f.state; K = p.K; is = p.is; here = p.here };
         p = record { place = c.args.h.place; function = some p.f };
-        left = record { place = refl; function = (refl, p.came.term) };
+        left = record { place = refl; function = p.came.term };
       },
       c.atom_word-w.ensures.first c.if-w-eq0.false,
     )

@@ -21,7 +21,7 @@ pub below-n-requires : goal.below-n-requires
 below-n-requires c = can_ask c.args.text.now c.args.work.now c.args.h c.requires.0.can _ c.bind_name.ensures.only.same
 
 pub list_in-requires : goal.list_in-requires
-list_in-requires c = (in-can c.args.text.now c.args.work.now c.args.h c.args.round c.args.from c.args.count c.args.ty c.args.at (room-sum c.args.h.top 1 (sym c.has_room.ensures ∙ not_no _ c.if-not-has_room.false-raw)) (enter-room c.args.text.now c.args.work.now c.args.h c.requires.0.can).1 c.requires.0.known c.requires.1 c.requires.0.readable _ c.bind_name.ensures (can_ask c.args.text.now c.args.work.now c.args.h c.requires.0.can _ c.bind_name.ensures.only.same) _ _ c.below-n.ensures c.requires.0.can, (c.requires.0.readable, c.requires.1))
+list_in-requires c = (in-can c.args.text.now c.args.work.now c.args.h c.args.items.round c.args.items.from c.args.items.count c.args.ty c.args.at (room-sum c.args.h.top 1 (sym c.has_room.ensures ∙ not_no _ c.if-not-has_room.false-raw)) (enter-room c.args.text.now c.args.work.now c.args.h c.requires.0.can).1 c.requires.0.known c.requires.1 c.requires.0.readable _ c.bind_name.ensures (can_ask c.args.text.now c.args.work.now c.args.h c.requires.0.can _ c.bind_name.ensures.only.same) _ _ c.below-n.ensures c.requires.0.can, (c.requires.0.readable, c.requires.1))
 
 pub returns : goal.returns
-returns c = room_there c.args.text.now c.args.work.now c.args.h c.args.place 1 _ (sym c.has_room.ensures ∙ not_no _ c.if-not-has_room.false-raw) _ _ (in-goes c.args.text.now c.args.work.now c.args.h c.args.round c.args.from c.args.count c.args.ty c.args.at (room-sum c.args.h.top 1 (sym c.has_room.ensures ∙ not_no _ c.if-not-has_room.false-raw)) (enter-room c.args.text.now c.args.work.now c.args.h c.requires.0.can).1 c.requires.0.known c.requires.1 c.requires.0.readable _ c.bind_name.ensures (can_ask c.args.text.now c.args.work.now c.args.h c.requires.0.can _ c.bind_name.ensures.only.same) _ _ c.below-n.ensures _ _ c.list_in.ensures)
+returns c = room_there c.args.text.now c.args.work.now c.args.h c.args.place 1 _ (sym c.has_room.ensures ∙ not_no _ c.if-not-has_room.false-raw) _ _ (in-goes c.args.text.now c.args.work.now c.args.h c.args.items.round c.args.items.from c.args.items.count c.args.ty c.args.at (room-sum c.args.h.top 1 (sym c.has_room.ensures ∙ not_no _ c.if-not-has_room.false-raw)) (enter-room c.args.text.now c.args.work.now c.args.h c.requires.0.can).1 c.requires.0.known c.requires.1 c.requires.0.readable _ c.bind_name.ensures (can_ask c.args.text.now c.args.work.now c.args.h c.requires.0.can _ c.bind_name.ensures.only.same) _ _ c.below-n.ensures _ _ c.list_in.ensures)

@@ -6,13 +6,13 @@ use native.Mathlib.Omega.{arith}
 use Rattle.term_walk.proofs.leaving.bind_value.Goals as goal
 
 pub bind_name-requires : goal.bind_name-requires
-bind_name-requires c = (omega (arith, c.requires.1.1), ((leave_workable c.args.text.now c.args.work.now c.args.h c.args.l c.args.x c.requires.0).room, omega (arith, c.wide.ensures, value_facts c.args.text.now c.args.work.now c.args.h c.args.l c.args.x c.requires.0 c.requires.1.0, leave_short c.args.text.now c.args.work.now c.args.h c.args.l c.args.x c.requires.0)))
+bind_name-requires c = (omega (arith, c.requires.1.1), ((leave_workable c.args.text.now c.args.work.now c.args.h c.args.l c.args.h.sub c.requires.0).room, omega (arith, c.from.ensures, value_facts c.args.text.now c.args.work.now c.args.h c.args.l c.args.h.sub c.requires.0 c.requires.1.0, leave_short c.args.text.now c.args.work.now c.args.h c.args.l c.args.h.sub c.requires.0)))
 
 pub overflow_add-h : goal.overflow_add-h
 overflow_add-h c = omega (arith, c.requires.1.1)
 
 pub ask-requires : goal.ask-requires
-ask-requires c = can_ask c.args.text.now c.args.work.now c.args.h (leave_enter c.args.text.now c.args.work.now c.args.h c.args.l c.args.x c.requires.0) _ c.bind_name.ensures.only.same
+ask-requires c = can_ask c.args.text.now c.args.work.now c.args.h (leave_enter c.args.text.now c.args.work.now c.args.h c.args.l c.args.h.sub c.requires.0) _ c.bind_name.ensures.only.same
 
 pub returns : goal.returns
-returns c = value_bound c.args.text.now c.args.work.now c.args.h c.args.l c.args.x c.requires.0 c.requires.1.0 (le-leb _ _ c.requires.1.1) c.requires.1.1 c.look-within.result c.look-within.ensures _ c.wide.ensures _ c.bind_name.ensures (can_ask c.args.text.now c.args.work.now c.args.h (leave_enter c.args.text.now c.args.work.now c.args.h c.args.l c.args.x c.requires.0) _ c.bind_name.ensures.only.same) _ _ c.ask.ensures
+returns c = value_bound c.args.text.now c.args.work.now c.args.h c.args.l c.args.h.sub c.requires.0 c.requires.1.0 (le-leb _ _ c.requires.1.1) c.requires.1.1 c.look-within.result c.look-within.ensures _ c.from.ensures _ c.bind_name.ensures (can_ask c.args.text.now c.args.work.now c.args.h (leave_enter c.args.text.now c.args.work.now c.args.h c.args.l c.args.h.sub c.requires.0) _ c.bind_name.ensures.only.same) _ _ c.ask.ensures

@@ -20,7 +20,7 @@ pub scope_at-s-requires : goal.scope_at-s-requires
 scope_at-s-requires c = ((level_room c.args.text.now c.args.work.now c.args.n c.requires.1 c.requires.0).1, omega (arith, (level_room c.args.text.now c.args.work.now c.args.n c.requires.1 c.requires.0).0))
 
 pub leave_by-requires : goal.leave_by-requires
-leave_by-requires c = can-leave-by c.args.text.now c.args.work.now c.args.n c.requires.1 _ _ _ _ _ _ (add-one c.args.n.more) c.level_at-l.ensures c.scope_at-s.ensures c.wide.ensures c.wide-2.ensures c.wide-3.ensures c.requires.0
+leave_by-requires c = can-leave-by c.args.text.now c.args.work.now c.args.n c.requires.1 _ _ _ _ _ _ (add-one c.args.n.more) c.level_at-l.ensures c.scope_at-s.ensures c.from.ensures c.from-2.ensures c.from-3.ensures c.requires.0
 
 pub returns : goal.returns
-returns c = leave-says-by c.args.text.now c.args.work.now c.args.n c.requires.1 _ _ _ _ _ _ (add-one c.args.n.more) c.level_at-l.ensures c.scope_at-s.ensures c.wide.ensures c.wide-2.ensures c.wide-3.ensures _ _ c.leave_by.ensures
+returns c = leave-says-by c.args.text.now c.args.work.now c.args.n c.requires.1 _ _ _ _ _ _ (add-one c.args.n.more) c.level_at-l.ensures c.scope_at-s.ensures c.from.ensures c.from-2.ensures c.from-3.ensures _ _ c.leave_by.ensures

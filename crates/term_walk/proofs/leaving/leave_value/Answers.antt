@@ -8,4 +8,4 @@ pub bind_value-requires : goal.bind_value-requires
 bind_value-requires c = (c.requires.0, (c.requires.1, leb-true _ _ (sym c.has_room.ensures ∙ c.if-has_room.true)))
 
 pub returns : goal.returns
-returns c = rw c.at.ensures (value-full c.args.text.now c.args.work.now c.args.h c.args.l c.args.x c.requires.0 c.requires.1 (sym c.has_room.ensures ∙ c.if-has_room.false) _ c.wide.ensures)
+returns c = rw c.at.ensures (value-full c.args.text.now c.args.work.now c.args.h c.args.l c.args.h.sub c.requires.0 c.requires.1 (sym c.has_room.ensures ∙ c.if-has_room.false) _ c.from.ensures)
