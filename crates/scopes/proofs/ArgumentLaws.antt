@@ -1,6 +1,6 @@
 -- The value of a number, by its form and by what its name means. Assumes nothing.
 use Prim.Native.Nat.{ℕ, ◌+◌, ◌-◌, ◌≤◌, ◌<◌}
-use mathlib.Core.Path.{◌≡◌, refl, sym, ap, ◌∙◌, subst}
+use mathlib.Core.Path.{◌≡◌, sym, ap, ◌∙◌, subst}
 use mathlib.Core.Bool.{Bool, true, false, cond}
 use mathlib.Core.List.{List}
 use native.Mathlib.Omega.{arith}
@@ -31,8 +31,8 @@ module _ (text work : List ℕ) (f : Frame) (us : List Word) (k : Num) (x : Numb
   value-is : (b : Bool) → k.named ≡ b → number_of (numbers_known text work f) x.number ≡ value_by b x.number.name k.plus k.place
   value-is b e = ap (λ (c : Bool). value_by c x.number.name x.number.plus x.number.place) (x.is_open ∙ e) ∙ ap (λ (n : ℕ). value_by b x.number.name n x.number.place) x.plus ∙ ap (value_by b x.number.name k.plus) x.place
 
-  pub value-plain : k.named ≡ false → ValueRead text work f us (Ok (record { value = k.plus; end = k.end }))
-  value-plain e = record { read = x.number; end = k.end; is = x.is; lexed = x.lexed; says = (refl, value-is false e, x.small) }
+  pub value-plain : k.named ≡ false → ValueRead text work f us (record { value = Ok k.plus; end = k.end })
+  value-plain e = record { read = x.number; is = x.is; lexed = x.lexed; says = (value-is false e, x.small) }
 
   module _ (e : k.named ≡ true) (K : NumbersKnown text work f) (r : ℕ) (first : r ≡ first_named text work k.place f.numbers (f.variables - f.numbers)) where
     abbrev place : ℕ
@@ -44,8 +44,8 @@ module _ (text work : List ℕ) (f : Frame) (us : List Word) (k : Num) (x : Numb
     value-named : (m : Answer ℕ) → lookup (run_at text place) (numbers_known text work f) 0 (λ i v. good v) (refuse 33 place) ≡ m → number_of (numbers_known text work f) x.number ≡ (m >>= limited k.plus place)
     value-named m h = value-is true e ∙ ap (λ (n : Name). value_by true n k.plus place) (x.name e) ∙ ap (λ (y : Answer ℕ). y >>= limited k.plus place) h
 
-    pub value-unknown : r ≡ f.variables → ValueRead text work f us (Err (refusal_at UnknownName place))
-    value-unknown q = record { read = x.number; end = k.end; is = x.is; lexed = x.lexed; says = value-named (refuse 33 place) (looked.none (omega (arith, K.ordered))) }
+    pub value-unknown : r ≡ f.variables → ValueRead text work f us (record { value = Err (refusal_at UnknownName place); end = k.end })
+    value-unknown q = record { read = x.number; is = x.is; lexed = x.lexed; says = value-named (refuse 33 place) (looked.none (omega (arith, K.ordered))) }
 
     module _ (q : ¬ (r ≡ f.variables)) where
       pub known-low : r < f.variables
@@ -55,8 +55,8 @@ module _ (text work : List ℕ) (f : Frame) (us : List Word) (k : Num) (x : Numb
         found-value : lookup (run_at text place) (numbers_known text work f) 0 (λ i v. good v) (refuse 33 place) ≡ good v
         found-value = (looked.there (omega (arith, known-low, K.ordered))).1 ∙ ap (λ (n : ℕ). good n) (sym value)
 
-        pub value-large : 255 < v + k.plus → ValueRead text work f us (Err (refusal_at TextLimit place))
-        value-large h = record { read = x.number; end = k.end; is = x.is; lexed = x.lexed; says = value-named (good v) found-value ∙ ap (λ (b : Bool). need b 34 place >>= λ _. good (v + k.plus)) (lt-leb (v + k.plus) 255 h) }
+        pub value-large : 255 < v + k.plus → ValueRead text work f us (record { value = Err (refusal_at TextLimit place); end = k.end })
+        value-large h = record { read = x.number; is = x.is; lexed = x.lexed; says = value-named (good v) found-value ∙ ap (λ (b : Bool). need b 34 place >>= λ _. good (v + k.plus)) (lt-leb (v + k.plus) 255 h) }
 
-        pub value-good : v + k.plus ≤ 255 → ValueRead text work f us (Ok (record { value = v + k.plus; end = k.end }))
-        value-good h = record { read = x.number; end = k.end; is = x.is; lexed = x.lexed; says = (refl, value-named (good v) found-value ∙ ap (λ (b : Bool). need b 34 place >>= λ _. good (v + k.plus)) (le-leb (v + k.plus) 255 h), h) }
+        pub value-good : v + k.plus ≤ 255 → ValueRead text work f us (record { value = Ok (v + k.plus); end = k.end })
+        value-good h = record { read = x.number; is = x.is; lexed = x.lexed; says = (value-named (good v) found-value ∙ ap (λ (b : Bool). need b 34 place >>= λ _. good (v + k.plus)) (le-leb (v + k.plus) 255 h), h) }

@@ -8,7 +8,7 @@ use lib.Dec.{leb}
 use lib.ListN.{length, get_or}
 use borrow.Author.Tests.{le-leb, lt-leb}
 use Rattle.calculus.specs.Answer.{Answer, good, refused, ◌>>=◌, need}
-use Rattle.std.proofs.Common.{Result, Ok, Err}
+use Rattle.std.proofs.Common.{Ok, Err}
 use Rattle.answers.specs.declared.Refusal.{Refusal as Why}
 use Rattle.answers.specs.declared.Reason.TheVariants.{TextLimit}
 use Rattle.answers.specs.Refusals.{refusal_at, said_why}
@@ -24,7 +24,7 @@ use Rattle.clauses.specs.Meant.{values_in}
 use Rattle.scopes.specs.declared.frames.Frame.{Frame}
 use Rattle.scopes.specs.declared.arguments.Value.{Value}
 use Rattle.scopes.specs.Entries.{with_entry, OnlyEntries}
-use Rattle.scopes.specs.Arguments.{numbers_known, NumbersKnown, ValueRead, NumbersGiven, CanGive}
+use Rattle.scopes.specs.Arguments.{numbers_known, NumbersKnown, ValueIs, ValueRead, NumbersGiven, CanGive}
 use Rattle.scopes.proofs.KeepLaws.{entry_value, entry_only, only_none, only_then, named-same}
 
 -- ---- values that stand in the scope
@@ -139,51 +139,54 @@ module _ (text w₀ : List ℕ) (f : Frame) (start n name top : ℕ) (C : CanGiv
         says = λ S j e g. step-on S j e g false (lt-leb (top + i + 1) most_entries h) (number_of (numbers_known text w f) firstNumber) refl;
       }
 
-      module _ (room : top + i + 1 ≤ most_entries) (u : List Word) (ui : behind (from text p) ≡ u) (r : Result Value Why) (R : ValueRead text w f u r) where
-        read_is : number_at (behind (from text p)) ≡ good (record { value = R.read; rest = from text R.end })
+      module _ (room : top + i + 1 ≤ most_entries) (u : List Word) (ui : behind (from text p) ≡ u) (r : Value) (R : ValueRead text w f u r) where
+        read_is : number_at (behind (from text p)) ≡ good (record { value = R.read; rest = from text r.end })
         read_is = ap number_at ui ∙ R.is
 
         first-is : firstNumber ≡ R.read
         first-is = ap (value_in no_number) read_is
 
-        later-is : laterNumbers ≡ numbers_from text R.end left
+        later-is : laterNumbers ≡ numbers_from text r.end left
         later-is = ap (λ (m : Answer (Got Number)). list_in no_number number_at left (rest_in_lem m)) read_is
 
-        pub giving-bad : (why : Why) → number_of (numbers_known text w f) R.read ≡ refused (said_why why) → NumbersGiven text w₀ f start n name top w (Err why)
-        giving-bad why z = record {
+        pub giving-bad : (why : Why) → r.value ≡ Err why → NumbersGiven text w₀ f start n name top w (Err why)
+        giving-bad why e = let z = subst (ValueIs text w f R.read) e R.says in record {
           only = c.only;
           says = λ S j e g. step-on S j e g true (le-leb (top + i + 1) most_entries room) (refused (said_why why)) (ap (number_of (numbers_known text w f)) first-is ∙ z);
         }
 
-        module _ (v : Value) (z : (v.end ≡ R.end) × (number_of (numbers_known text w f) R.read ≡ good v.value) × (v.value ≤ 255)) where
+        module _ (v : ℕ) (e : r.value ≡ Ok v) where
+          z : ValueIs text w f R.read (Ok v)
+          z = subst (ValueIs text w f R.read) e R.says
+
+          pub giving-small : v ≤ 255
+          giving-small = z.1
+
           abbrev w' : List ℕ
-          w' = with_entry w (top + i) 0 v.value
+          w' = with_entry w (top + i) 0 v
 
           stored : OnlyEntries (top + i) (top + i + 1) w w'
-          stored = entry_only w (top + i) 0 v.value (omega arith) giving-known.places.room
+          stored = entry_only w (top + i) 0 v (omega arith) giving-known.places.room
 
-          values-now : values_in w top i ++ v.value ∷ [] ≡ values_in w' top (i + 1)
+          values-now : values_in w top i ++ v ∷ [] ≡ values_in w' top (i + 1)
           values-now =
               let y : suc i ≡ i + 1 = omega arith in
-              ap (λ (vs : List ℕ). vs ++ v.value ∷ []) (sym (values_same w w' i top (top + i) (omega arith) (only_then (top + i) (top + i + 1) (top + i) (top + i) (top + i) most_entries w w' w' (omega arith) (omega arith) (omega arith) (omega arith) stored (only_none (top + i) (top + i) w'))))
-              ∙ ap (λ (x : ℕ). values_in w' top i ++ x ∷ []) (sym (entry_value w (top + i) 0 v.value (omega arith) giving-known.places.room))
+              ap (λ (vs : List ℕ). vs ++ v ∷ []) (sym (values_same w w' i top (top + i) (omega arith) (only_then (top + i) (top + i + 1) (top + i) (top + i) (top + i) most_entries w w' w' (omega arith) (omega arith) (omega arith) (omega arith) stored (only_none (top + i) (top + i) w'))))
+              ∙ ap (λ (x : ℕ). values_in w' top i ++ x ∷ []) (sym (entry_value w (top + i) 0 v (omega arith) giving-known.places.room))
               ∙ sym (values_more w' i top)
               ∙ ap (values_in w' top) y
 
-          giving-on : Giving text w₀ f start n name top w' (i + 1) R.end
-          giving-on = record {
+          pub giving-more : Giving text w₀ f start n name top w' (i + 1) r.end
+          giving-more = record {
             most = omega arith;
             there = record { lexed = R.lexed; readable = subst (λ (m : Answer (Got Number)). Readable no_number number_at left (rest_in_lem m)) read_is all_left.readable.1 };
             only = only_then top most_entries (top + i) (top + i + 1) top most_entries w₀ w w' (omega arith) (omega arith) (omega arith) (omega arith) c.only stored;
             few = omega arith;
             total = λ S j e g.
                 let y : suc (j + i) ≡ j + (i + 1) = omega arith in
-                step-on S j e g true (le-leb (top + i + 1) most_entries room) (good v.value) (ap (number_of (numbers_known text w f)) first-is ∙ z.1)
-                ∙ before_one (values_in w top i) v.value (numbers_in S name (suc (j + i)) laterNumbers)
+                step-on S j e g true (le-leb (top + i + 1) most_entries room) (good v) (ap (number_of (numbers_known text w f)) first-is ∙ z.0)
+                ∙ before_one (values_in w top i) v (numbers_in S name (suc (j + i)) laterNumbers)
                 ∙ ap (λ (vs : List ℕ). before vs (numbers_in S name (suc (j + i)) laterNumbers)) values-now
                 ∙ ap (λ (k : ℕ). before (values_in w' top (i + 1)) (numbers_in S name k laterNumbers)) y
                 ∙ ap (λ (l : List Number). before (values_in w' top (i + 1)) (numbers_in S name (j + (i + 1)) l)) later-is;
           }
-
-          pub giving-more : Giving text w₀ f start n name top w' (i + 1) v.end
-          giving-more = subst (Giving text w₀ f start n name top w' (i + 1)) (sym z.0) giving-on

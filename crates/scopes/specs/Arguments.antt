@@ -23,18 +23,17 @@ pub record NumbersKnown (text work : List ℕ) (f : Frame) : Type 0 where
   pub places : Places text work f.numbers f.variables
   pub ordered : f.numbers ≤ f.variables
 
--- a number is worked out: a value and the offset behind it, or a refusal
-abbrev pub ValueIs : List ℕ → List ℕ → Frame → Number → ℕ → Result Value Why → Type 0
-ValueIs text work f read end (Ok v) = (v.end ≡ end) × (number_of (numbers_known text work f) read ≡ good v.value) × (v.value ≤ 255)
-ValueIs text work f read end (Err why) = number_of (numbers_known text work f) read ≡ refused (said_why why)
+-- a number is worked out: a value, or a refusal
+abbrev pub ValueIs : List ℕ → List ℕ → Frame → Number → Result ℕ Why → Type 0
+ValueIs text work f read (Ok n) = (number_of (numbers_known text work f) read ≡ good n) × (n ≤ 255)
+ValueIs text work f read (Err why) = number_of (numbers_known text work f) read ≡ refused (said_why why)
 
--- k, n or n + k was read from these words and worked out
-pub record ValueRead (text work : List ℕ) (f : Frame) (us : List Word) (r : Result Value Why) : Type 0 where
+-- k, n or n + k was read from these words and worked out: a value or a refusal, and the offset behind the number in both cases
+pub record ValueRead (text work : List ℕ) (f : Frame) (us : List Word) (r : Value) : Type 0 where
   pub read : Number
-  pub end : ℕ
-  pub is : number_at us ≡ got read (from text end)
-  pub lexed : Lexed text end
-  pub says : ValueIs text work f read end r
+  pub is : number_at us ≡ got read (from text r.end)
+  pub lexed : Lexed text r.end
+  pub says : ValueIs text work f read r.value
 
 -- so many numbers from an offset on were worked out and stand in the scope as arguments that wait, from entry `top` on; or a refusal. In any
 -- scope that has these number parameters, and whose entries end at `top` with the arguments that wait already

@@ -9,38 +9,44 @@ use answers::{Reason, Refusal};
 
 const MOST_ENTRIES: usize = 1024;
 
-// A value and the offset behind it.
+// A number's value, or why it has none; and the offset behind the number, in both cases.
 #[derive(Clone, Copy)]
 pub struct Value {
-    pub value: usize,
+    pub value: Result<usize, Refusal>,
     pub end: usize,
 }
 
 // The value of k, n or n + k: 33, then 34, at its place.
-pub fn value_at(text: &[u8], work: &[u16], at: usize, f: Frame) -> Result<Value, Refusal>
+pub fn value_at(text: &[u8], work: &[u16], at: usize, f: Frame) -> Value
     requires { (Lexed text.now at) × ((NumberThere (from text.now at)) × (NumbersKnown text.now work.now f)) }
     ensures { ValueRead text.now work.now f (from text.now at) result }
 {
     let k = clauses::numbers::number_at(text, at);
     if !k.named {
-        return Ok(Value {
-            value: k.plus,
+        return Value {
+            value: Ok(k.plus),
             end: k.end,
-        });
+        };
     }
     let e = entries::first_of(text, work, k.place, f.numbers, f.variables);
     if e == f.variables {
-        return Err(Reason::UnknownName.at(k.place));
+        return Value {
+            value: Err(Reason::UnknownName.at(k.place)),
+            end: k.end,
+        };
     }
     let v = entries::value_of(work, e);
     let n = v + k.plus;
     if 255 < n {
-        return Err(Reason::TextLimit.at(k.place));
+        return Value {
+            value: Err(Reason::TextLimit.at(k.place)),
+            end: k.end,
+        };
     }
-    Ok(Value {
-        value: n,
+    Value {
+        value: Ok(n),
         end: k.end,
-    })
+    }
 }
 
 // The n numbers from an offset on, put on the scope from entry `top` on: 34 at the name's place where the scope is full.
@@ -62,8 +68,8 @@ pub fn numbers_given(
             return Err(Reason::TextLimit.at(name));
         }
         let w = words::word_at(text, p);
-        let v = value_at(text, work, w.end, f)?;
-        entries::bind(work, top + i, 0, v.value);
+        let v = value_at(text, work, w.end, f);
+        entries::bind(work, top + i, 0, v.value?);
         p = v.end;
     }
     Ok(())

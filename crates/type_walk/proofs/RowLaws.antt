@@ -31,7 +31,7 @@ use Rattle.clauses.specs.Numbers.{no_number, NumberThere}
 use Rattle.scopes.specs.declared.frames.Frame.{Frame}
 use Rattle.scopes.specs.declared.arguments.Value.{Value}
 use Rattle.scopes.specs.Frames.{frame_in, HoldsScope}
-use Rattle.scopes.specs.Arguments.{numbers_known, NumbersKnown, ValueRead}
+use Rattle.scopes.specs.Arguments.{numbers_known, NumbersKnown, ValueIs, ValueRead}
 use Rattle.type_walk.specs.declared.levels.Here.{Here}
 use Rattle.type_walk.specs.declared.levels.Walking as code
 use Rattle.type_walk.specs.Holding.{here_with, AtLevel}
@@ -105,7 +105,7 @@ module _ (text w : List ℕ) (h : Here) (f : Frame) (F : f ≡ frame_in w h.fram
         ordered = subst (λ (x : Frame). x.numbers ≤ x.variables) (sym F) held.parameters.numbers_next;
       }
 
-  module _ (sign at : ℕ) (r : Result Value Refusal) (N : ValueRead text w f (from text at) r) where
+  module _ (sign at : ℕ) (r : Value) (N : ValueRead text w f (from text at) r) where
     numbers_of : (S : Scope) → HoldsScope text w h.frame h.top S → S.numbers ≡ numbers_known text w f
     numbers_of S H = sym H.parameters.numbers ∙ ap (numbers_known text w) (sym F)
 
@@ -113,32 +113,34 @@ module _ (text w : List ℕ) (h : Here) (f : Frame) (F : f ≡ frame_in w h.fram
     counted end t σ m = m >>= λ n. ones_of sign N.read.place n σ >>= λ x. good (side_from t x (from text end))
 
     -- what is answered, where the number's value is known
-    power-is : (X : Text) (m₀ base : ℕ) (σ : State) (S : Scope) (K : List TypeLevel) → AtLevel text w X m₀ base σ h S K → (bodies : List (List Word)) (m : Answer ℕ) → number_of (numbers_known text w f) N.read ≡ m → power_after text sign at X bodies (here_with h S K) σ ≡ counted N.end (here_with h S K) σ m
+    power-is : (X : Text) (m₀ base : ℕ) (σ : State) (S : Scope) (K : List TypeLevel) → AtLevel text w X m₀ base σ h S K → (bodies : List (List Word)) (m : Answer ℕ) → number_of (numbers_known text w f) N.read ≡ m → power_after text sign at X bodies (here_with h S K) σ ≡ counted r.end (here_with h S K) σ m
     power-is X m₀ base σ S K A bodies m g =
         ap (λ (a : Answer (Got Number)). a >>= λ k. number_of S.numbers k.value >>= λ n. ones_of sign k.value.place n σ >>= λ x. good (side_from (here_with h S K) x k.rest)) N.is
-        ∙ ap (λ (Γ : List Entry). counted N.end (here_with h S K) σ (number_of Γ N.read)) (numbers_of S A.walkable.scope)
-        ∙ ap (counted N.end (here_with h S K) σ) g
+        ∙ ap (λ (Γ : List Entry). counted r.end (here_with h S K) σ (number_of Γ N.read)) (numbers_of S A.walkable.scope)
+        ∙ ap (counted r.end (here_with h S K) σ) g
 
-  module _ (sign at : ℕ) where
-    pub power-bad : (q : Refusal) → ValueRead text w f (from text at) (Err q) → Moved text w h Anything (power_after text sign at) (Err q) w
-    power-bad q N = refused_moved Anything (power_after text sign at) q (λ X m₀ base σ S K A _ bodies. power-is sign at (Err q) N X m₀ base σ S K A bodies (refused (said_why q)) N.says)
+    -- what was read, by what the code has of it
+    says : (x : Result ℕ Refusal) → r.value ≡ x → ValueIs text w f N.read x
+    says x e = subst (ValueIs text w f N.read) e N.says
 
-    module _ (v : Value) (N : ValueRead text w f (from text at) (Ok v)) where
-      pub power_zero : v.value ≡ 0 → (u : Said) → Stands text at u → Moved text w h Anything (power_after text sign at) (Err (refusal_at Reason.UnknownName u.place)) w
+    pub power-bad : (q : Refusal) → r.value ≡ Err q → Moved text w h Anything (power_after text sign at) (Err q) w
+    power-bad q e = refused_moved Anything (power_after text sign at) q (λ X m₀ base σ S K A _ bodies. power-is X m₀ base σ S K A bodies (refused (said_why q)) (says (Err q) e))
+
+    module _ (n : ℕ) (e : r.value ≡ Ok n) where
+      pub power_zero : n ≡ 0 → (u : Said) → Stands text at u → Moved text w h Anything (power_after text sign at) (Err (refusal_at Reason.UnknownName u.place)) w
       power_zero z u s = refused_moved Anything (power_after text sign at) (refusal_at Reason.UnknownName u.place) (λ X m₀ base σ S K A _ bodies.
-          power-is sign at (Ok v) N X m₀ base σ S K A bodies (good v.value) N.says.1
-          ∙ ap (λ (n : ℕ). counted sign at (Ok v) N N.end (here_with h S K) σ (good n)) z
-          ∙ ap (λ (p : ℕ). refuse 33 p) (number-place (from text at) (from text N.end) N.read N.is ∙ sym s.place))
+          power-is X m₀ base σ S K A bodies (good n) (says (Ok n) e).0
+          ∙ ap (λ (k : ℕ). counted r.end (here_with h S K) σ (good k)) z
+          ∙ ap (λ (p : ℕ). refuse 33 p) (number-place (from text at) (from text r.end) N.read N.is ∙ sym s.place))
 
-      pub power-some : ¬ (v.value ≡ 0) → (w' : List ℕ) (r : Result code.Walking Refusal) → Moved text w h Anything (row_after text (v.value - 1) sign v.end) r w' → Moved text w h Anything (power_after text sign at) r w'
-      power-some z w' r M =
-          let n : v.value ≡ suc (v.value - 1) = omega arith in
-          moved_by Anything Anything (row_after text (v.value - 1) sign v.end) (power_after text sign at) (λ X m₀ base σ S K A _. (
+      pub power-some : ¬ (n ≡ 0) → (w' : List ℕ) (t : Result code.Walking Refusal) → Moved text w h Anything (row_after text (n - 1) sign r.end) t w' → Moved text w h Anything (power_after text sign at) t w'
+      power-some z w' t M =
+          let m : n ≡ suc (n - 1) = omega arith in
+          moved_by Anything Anything (row_after text (n - 1) sign r.end) (power_after text sign at) (λ X m₀ base σ S K A _. (
             tt,
             λ bodies.
-                power-is sign at (Ok v) N X m₀ base σ S K A bodies (good v.value) N.says.1
-                ∙ ap (λ (k : ℕ). counted sign at (Ok v) N N.end (here_with h S K) σ (good k)) n
-                ∙ ap (λ (j : ℕ). counted sign at (Ok v) N j (here_with h S K) σ (good (suc (v.value - 1)))) (sym N.says.0),
+                power-is X m₀ base σ S K A bodies (good n) (says (Ok n) e).0
+                ∙ ap (λ (k : ℕ). counted r.end (here_with h S K) σ (good k)) m,
           )) M
 
 -- ---- behind the number

@@ -36,12 +36,13 @@ fn power_at(
 {
     grammar::steps::number_end(text, at)?;
     let f = scopes::frames::frame_at(work, h.frame);
-    let v = scopes::arguments::value_at(text, work, at, f)?;
-    if v.value == 0 {
+    let v = scopes::arguments::value_at(text, work, at, f);
+    let n = v.value?;
+    if n == 0 {
         let w = words::word_at(text, at);
         return Err(Reason::UnknownName.at(w.start));
     }
-    row_from(text, work, h, v.value - 1, sign, v.end)
+    row_from(text, work, h, n - 1, sign, v.end)
 }
 
 // Behind a 1.
