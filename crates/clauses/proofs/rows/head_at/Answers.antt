@@ -6,7 +6,7 @@ use native.Mathlib.Omega.{arith}
 use Rattle.clauses.proofs.rows.head_at.Goals as goal
 
 pub loop-low-init : goal.loop-low-init
-loop-low-init c = omega (arith, c.wide-high.ensures)
+loop-low-init c = omega (arith, c.from-high.ensures)
 
 pub overflow_add-middle : goal.overflow_add-middle
 overflow_add-middle c = omega (arith, c.loop-low-test.true, c.loop-low.invariant, c.requires.0)

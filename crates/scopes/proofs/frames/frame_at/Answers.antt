@@ -4,4 +4,4 @@ use Rattle.scopes.proofs.EntryLaws.{frame_parts}
 use Rattle.scopes.proofs.frames.frame_at.Goals as goal
 
 pub returns : goal.returns
-returns c = frame_parts (frame_in c.args.work.now c.args.f) _ _ _ _ c.wide.ensures c.wide-2.ensures c.wide-3.ensures c.wide-4.ensures
+returns c = frame_parts (frame_in c.args.work.now c.args.f) _ _ _ _ c.from.ensures c.from-2.ensures c.from-3.ensures c.from-4.ensures
