@@ -1,5 +1,6 @@
 -- One step of the walk: a type is wanted, or one came that a level waited for. One law for each way out. Assumes nothing.
 use Prim.Native.Nat.{ℕ, zero, suc, ◌+◌, ◌*◌, ◌-◌, ◌≤◌, ◌<◌}
+use mathlib.Core.Logic.{◌⊎◌, inl, inr}
 use mathlib.Core.Path.{◌≡◌, refl, sym, ap, subst, ◌∙◌}
 use mathlib.Core.Bool.{Bool, true, false, cond}
 use mathlib.Core.List.{List, [], ◌∷◌}
@@ -46,6 +47,8 @@ use Rattle.type_walk.specs.declared.levels.Want.{Want}
 use Rattle.type_walk.specs.declared.levels.Come.{Come}
 use Rattle.type_walk.specs.declared.levels.Here.{Here}
 use Rattle.type_walk.specs.declared.levels.Walking as code
+use Rattle.type_walk.specs.declared.levels.Side.{Side}
+use Rattle.type_walk.specs.Wishes.{number_said}
 use Rattle.type_walk.specs.declared.levels.Walking.TheVariants as walking
 use Rattle.type_walk.specs.Holding.{given_from, AllBelow, LevelHeld, LevelsHeld, here_with, here_in, AtLevel, Wanting, Coming}
 use Rattle.type_walk.specs.Moves.{CanMove, Waited, Moving, Moved, Known, found_in_lem, Given, Valued, Both, Anything, NameAt, form_by, side_after, arrow_after, done_after, ones_after, argument_ask, put_after, named_after, inside_ask, enter_at, left_with, side_done, CanStep, Stepped}
@@ -268,6 +271,15 @@ module _ (text w w' : List ℕ) (h : Here) (form ty at : ℕ) (r : Result code.W
   pub side_done_lem : ¬ (form ≡ 3) → Moved text w h (Known ty) (done_after text ty at) r w' → Moved text w h (Known ty) (side_done text form ty at) r w'
   side_done_lem n M = moved_as (Known ty) (done_after text ty at) (side_done text form ty at) (λ X bodies σ S K. ap (λ (b : Bool). good (behind_side (cond b product (cond (eqb form 4) arrow linear)) (here_with h S K) (found_in_lem ty σ) (from text at))) (ne_eqb form 3 n) ∙ ap good (done-by (eqb form 4) (here_with h S K) (found_in_lem ty σ) (from text at))) M
 
+pub said-low : (side : Side) → (3 ≤ number_said side) × (number_said side ≤ 5)
+said-low Side.Product = (omega arith, omega arith)
+said-low Side.Arrow = (omega arith, omega arith)
+said-low Side.Linear = (omega arith, omega arith)
+
+pub not-product : (side : Side) → (side ≡ Side.Arrow) ⊎ (side ≡ Side.Linear) → ¬ (number_said side ≡ 3)
+not-product side (inl e) z = let n : number_said side ≡ 4 = ap number_said e in absurd (omega (arith, n, z))
+not-product side (inr e) z = let n : number_said side ≡ 5 = ap number_said e in absurd (omega (arith, n, z))
+
 -- 3, 4 or 5
 by_form : (P : ℕ → Type 0) → P 3 → P 4 → P 5 → (n : ℕ) → 3 ≤ n → n ≤ 5 → P n
 by_form P a b c n low high = elim (dec_le 4 n) [
@@ -285,7 +297,13 @@ form_record form a b low high = by_form (λ (n : ℕ). form_of (form_by n) a b �
 form_below : (k form a b : ℕ) → 3 ≤ form → form ≤ 5 → a < k → b < k → Below k (rec_of_kind (form - 1) a b)
 form_below k form a b low high x y = by_form (λ (n : ℕ). Below k (rec_of_kind (n - 1) a b)) (x, y) (x, y) (x, y) form low high
 
-module _ (text w w₁ : List ℕ) (h : Here) (l : Level) (ty at : ℕ) (low : 3 ≤ l.form) (high : l.form ≤ 5) where
+module _ (text w w₁ : List ℕ) (h : Here) (l : Level) (side : Side) (is_form : l.form ≡ number_said side) (ty at : ℕ) where
+  low : 3 ≤ l.form
+  low = omega (arith, is_form, (said-low side).0)
+
+  high : l.form ≤ 5
+  high = omega (arith, is_form, (said-low side).1)
+
   abbrev rec : Record
   rec = record { kind = l.form - 1; left = l.ty; right = ty }
 
@@ -297,7 +315,7 @@ module _ (text w w₁ : List ℕ) (h : Here) (l : Level) (ty at : ℕ) (low : 3 
       let H = C.held.walkable.state.types in
       let few = H.ok.few in
       let k = C.known in
-      record { room = H.room; count = omega (arith, H.count); form = omega arith; known = omega arith; left = omega (arith, k.0); right = omega (arith, k.1) }
+      record { room = H.room; count = omega (arith, H.count); form = omega (arith, low, high); known = omega (arith, low, high); left = omega (arith, k.0); right = omega (arith, k.1) }
 
   abbrev answer : State → Answer Found
   answer σ = listed σ (record_of_lem rec) l.place
@@ -321,8 +339,8 @@ module _ (text w w₁ : List ℕ) (h : Here) (l : Level) (ty at : ℕ) (low : 3 
     pub can-after : CanMove text w₁ h (Known t)
     can-after = table-can text w w₁ h P answer go_on_lem leaves left_is C L.only x (known-listed x L) t is_x
 
-    pub side-listed : (w₂ : List ℕ) (r : Result code.Walking Refusal) → Moved text w₁ h (Known t) (side_done text l.form t at) r w₂ → Moved text w h P leaves r w₂
-    side-listed w₂ r M = table-found text w w₁ h P answer go_on_lem leaves left_is C L.only x (known-listed x L) t is_x (side_done text l.form t at) (λ X bodies u σ. refl) w₂ r M
+    pub side-listed : (w₂ : List ℕ) (r : Result code.Walking Refusal) → Moved text w₁ h (Known t) (side_done text (number_said side) t at) r w₂ → Moved text w h P leaves r w₂
+    side-listed w₂ r M = table-found text w w₁ h P answer go_on_lem leaves left_is C L.only x (known-listed x L) t is_x (side_done text l.form t at) (λ X bodies u σ. refl) w₂ r (subst (λ (n : ℕ). Moved text w₁ h (Known t) (side_done text n t at) r w₂) (sym is_form) M)
 
 -- ---- a step at a type that came
 
