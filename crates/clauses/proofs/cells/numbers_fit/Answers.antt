@@ -9,9 +9,6 @@ use Rattle.clauses.specs.Meant.{values_in}
 use Rattle.clauses.proofs.CellLaws.{numbers-no, numbers-yes, numbers-later}
 use Rattle.clauses.proofs.cells.numbers_fit.Goals as goal
 
-pub cells_fit-requires : goal.cells_fit-requires
-cells_fit-requires c = (c.requires.1.0, (c.cells_in-c.ensures.few, (omega (arith, c.requires.1.1.0, c.cells_in-c.ensures.most), c.requires.1.1.1)))
-
 pub returns-then-not-cells_fit : goal.returns-then-not-cells_fit
 returns-then-not-cells_fit c =
     let m = c.cells_in-c in

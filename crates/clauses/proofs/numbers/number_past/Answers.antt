@@ -4,12 +4,8 @@ use mathlib.Core.Bool.{true, false}
 use Rattle.words.specs.Next.{said_word}
 use Rattle.grammar.proofs.EndLaws.{word-marks}
 use Rattle.words.specs.Lexed.{from}
-use Rattle.clauses.proofs.NumberLaws.{number-onward, number-plain, number-name, plus-onward, number-plus, past_by}
+use Rattle.clauses.proofs.NumberLaws.{number-plain, number-name, plus-onward, number-plus, past_by}
 use Rattle.clauses.proofs.numbers.number_past.Goals as goal
-
-pub word_here-p-requires : goal.word_here-p-requires
-word_here-p-requires c =
-    (number-onward c.args.text.now c.args.at (said_word c.word_at-w.result) c.word_at-w.ensures c.requires.1).lexed
 
 pub returns-then-w-ne-NAME : goal.returns-then-w-ne-NAME
 returns-then-w-ne-NAME c =
