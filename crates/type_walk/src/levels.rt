@@ -24,6 +24,7 @@ pub enum Side {
 }
 
 impl Side {
+    // The form's number, as the memory holds it: no derive gives it.
     pub fn number(self) -> u16
         ensures { result ≡ number_said self }
     {
