@@ -1,7 +1,7 @@
 -- A row after those of the table, test by test. Assumes nothing.
 use Prim.Native.Nat.{ℕ, zero, suc, ◌+◌, ◌*◌, ◌-◌, ◌≤◌, ◌<◌}
 use mathlib.Core.Path.{◌≡◌, refl, sym, ap, subst, ◌∙◌}
-use mathlib.Core.Bool.{Bool, true, false, not, ◌&&◌, ◌||◌, cond}
+use mathlib.Core.Bool.{Bool, true, false, not, beq, ◌&&◌, ◌||◌, cond}
 use mathlib.Core.List.{List}
 use native.Mathlib.Omega.{arith}
 use lib.Dec.{T, eqb, ltb}
@@ -13,6 +13,7 @@ use Rattle.notation_calculus.specs.Words.{same_name}
 use Rattle.notation_calculus.specs.Grammar.{most_clauses, cover_all, same_sort}
 use Rattle.notation_theorems.proofs.TypesMean.{same→eq}
 use Rattle.words.specs.Next.{run_at}
+use Rattle.words.proofs.WordLaws.{not_yes, not_no}
 use Rattle.making_memory.specs.Map.{clauses_at, clause_count_at}
 use Rattle.clauses.specs.declared.rows.Row.{Row}
 use Rattle.clauses.specs.Rows.{key_for, row_numbers, row_in, KeyFrom}
@@ -21,20 +22,20 @@ use Rattle.clauses.specs.Follows.{RowThere, RowsThere, row_namesake, row_follows
 
 -- ---- names
 
-pub sort_yes : (a b : Bool) → a ≡ true → b ≡ same_sort a b
-sort_yes a b e = sym (ap (λ (x : Bool). same_sort x b) e)
-
-pub sort_no : (a b : Bool) → a ≡ false → not b ≡ same_sort a b
-sort_no a b e = sym (ap (λ (x : Bool). same_sort x b) e)
+sort_beq : (a b : Bool) → same_sort a b ≡ beq a b
+sort_beq true true = refl
+sort_beq true false = refl
+sort_beq false true = refl
+sort_beq false false = refl
 
 module _ (text : List ℕ) (r : Row) (sort : Bool) (at : ℕ) where
-  pub namesake_no : same_sort r.sort sort ≡ false → false ≡ row_namesake text r sort at
+  pub namesake_no : not (beq r.sort sort) ≡ true → false ≡ row_namesake text r sort at
   unfolding row_namesake
-  namesake_no e = sym (ap (λ (b : Bool). b && same_name (run_at text r.name) (run_at text at)) e)
+  namesake_no e = sym (ap (λ (b : Bool). b && same_name (run_at text r.name) (run_at text at)) (sort_beq r.sort sort ∙ not_yes (beq r.sort sort) e))
 
-  pub namesake-run : same_sort r.sort sort ≡ true → (b : Bool) → b ≡ same_name (run_at text r.name) (run_at text at) → b ≡ row_namesake text r sort at
+  pub namesake-run : not (beq r.sort sort) ≡ false → (b : Bool) → b ≡ same_name (run_at text r.name) (run_at text at) → b ≡ row_namesake text r sort at
   unfolding row_namesake
-  namesake-run e b f = f ∙ sym (ap (λ (x : Bool). x && same_name (run_at text r.name) (run_at text at)) e)
+  namesake-run e b f = f ∙ sym (ap (λ (x : Bool). x && same_name (run_at text r.name) (run_at text at)) (sort_beq r.sort sort ∙ not_no (beq r.sort sort) e))
 
 sort_is : (a b : Bool) → T (same_sort a b) → a ≡ b
 sort_is true true h = refl

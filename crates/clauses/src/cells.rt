@@ -8,7 +8,7 @@ ghost use Rattle.clauses.specs.Cells.{most_cells, CellCount, cell_at, cell_of, c
 ghost use Rattle.clauses.specs.Meant.{values_in};
 
 use crate::numbers::Num;
-use crate::{meant, numbers, rows};
+use crate::{meant, numbers};
 
 const MOST_CELLS: usize = 27;
 
@@ -33,6 +33,8 @@ fn cells_in(n: usize) -> usize
     MOST_CELLS
 }
 
+// An offset and the count of the numbers there stay two parameters, here, in `numbers_fit` and in `meant::fit_all`: `Row` has both among its fields, and
+// the later part of a list, which `numbers_fit` hands on, is no row. The first entry of the values goes beside them, also to `cells_fit`, as `Asked` has it.
 // The cells of row k, for the n numbers behind an offset; and where the later ones stand.
 pub fn store(text: &[u8], work: &mut [u16], k: usize, at: usize, n: usize)
     requires { (NumbersThere text.now at n) × ((length text.now ≤ 65535) × ((k < 256) × (making_size ≤ length work.old))) }
@@ -53,7 +55,7 @@ pub fn store(text: &[u8], work: &mut [u16], k: usize, at: usize, n: usize)
 fn fits(cell: u16, n: usize) -> bool
     ensures { result ≡ cell_fits cell n }
 {
-    let c = rows::wide(cell);
+    let c = usize::from(cell);
     if 256 <= c {
         return c - 256 <= n;
     }
@@ -94,6 +96,6 @@ pub fn numbers_fit(text: &[u8], work: &[u16], k: usize, at: usize, n: usize, fir
     if n <= MOST_CELLS {
         return true;
     }
-    let later = rows::wide(cell_at(work, k, MOST_CELLS));
+    let later = usize::from(cell_at(work, k, MOST_CELLS));
     meant::fit_all(text, work, later, n - MOST_CELLS, first + MOST_CELLS)
 }

@@ -1,6 +1,5 @@
 // A clause after those of the table: refusals 34 and 36.
 ghost use Rattle.std.specs.Prelude.{◌≡◌, ◌+◌, ◌*◌, ◌≤◌, ◌<◌, length, get_or};
-ghost use Rattle.notation_calculus.specs.Grammar.{same_sort};
 ghost use Rattle.making_memory.specs.Map.{clause_count_at};
 ghost use Rattle.clauses.specs.Rows.{ShortRow};
 ghost use Rattle.clauses.specs.Follows.{RowThere, row_namesake, row_follows, follows_from, RowsThere, RowAdded};
@@ -9,21 +8,12 @@ use crate::rows::Row;
 use crate::{cells, numbers, rows};
 use answers::Reason;
 
-fn same_sort(a: bool, b: bool) -> bool
-    ensures { result ≡ same_sort a b }
-{
-    if a {
-        return b;
-    }
-    !b
-}
-
 // A row of a sort and of the name at a place.
 pub fn namesake(text: &[u8], r: Row, sort: bool, at: usize) -> bool
     requires { (r.name ≤ length text.now) × (at ≤ length text.now) }
     ensures { result ≡ row_namesake text.now r sort at }
 {
-    if !same_sort(r.sort, sort) {
+    if r.sort != sort {
         return false;
     }
     words::same::same_run(text, at, r.name)
@@ -51,7 +41,7 @@ pub fn row_count(work: &[u16]) -> usize
     requires { clause_count_at < length work.now }
     ensures { result ≡ get_or work.now clause_count_at 0 }
 {
-    rows::wide(work[making_memory::CLAUSE_COUNT])
+    usize::from(work[making_memory::CLAUSE_COUNT])
 }
 
 // .. after each row of the table with its key: the others are of other sorts or names.

@@ -17,6 +17,7 @@ pub struct Group {
 }
 
 // A word that ends a group: a closing bracket, or the text's end.
+// A word's kind stays a number, here and in `counted`: `leaves_group` and `counted_by` are defined over the numbers that `token_code` gives.
 fn leaves(kind: u8) -> bool
     ensures { result ≡ leaves_group kind }
 {

@@ -39,7 +39,7 @@ pub fn value_of(work: &[u16], entry: usize) -> usize
     requires { (entry < most_entries) × (making_size ≤ length work.now) }
     ensures { result ≡ get_or work.now (scope_at + 2 * entry + 1) 0 }
 {
-    rows::wide(work[making_memory::SCOPE + 2 * entry + 1])
+    usize::from(work[making_memory::SCOPE + 2 * entry + 1])
 }
 
 // The n number parameters at an offset fit the values of the entries from one on.

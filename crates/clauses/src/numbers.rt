@@ -16,12 +16,6 @@ pub struct Num {
     pub end: usize,
 }
 
-fn wide(x: u8) -> usize
-    ensures { (result ≡ x) × (result ≤ 255) }
-{
-    x as usize
-}
-
 pub fn number_at(text: &[u8], at: usize) -> Num
     requires { (Lexed text.now at) × (NumberThere (from text.now at)) }
     ensures { NumberRead text.now (from text.now at) result }
@@ -31,7 +25,7 @@ pub fn number_at(text: &[u8], at: usize) -> Num
         return Num {
             named: false,
             place: w.start,
-            plus: wide(w.value),
+            plus: usize::from(w.value),
             end: w.end,
         };
     }
@@ -48,7 +42,7 @@ pub fn number_at(text: &[u8], at: usize) -> Num
     Num {
         named: true,
         place: w.start,
-        plus: wide(k.value),
+        plus: usize::from(k.value),
         end: k.end,
     }
 }
@@ -83,7 +77,7 @@ pub fn number_past(text: &[u8], at: usize) -> Num
         return Num {
             named: false,
             place: w.start,
-            plus: wide(w.value),
+            plus: usize::from(w.value),
             end: p.end,
         };
     }
@@ -96,7 +90,7 @@ pub fn number_past(text: &[u8], at: usize) -> Num
         };
     }
     let k = words::word_at(text, p.end);
-    let plus = wide(k.value);
+    let plus = usize::from(k.value);
     let c = words::word_here(text, k.end);
     Num {
         named: true,

@@ -64,19 +64,10 @@ pub fn row_of(text: &[u8], at: usize, sort: bool, end: usize) -> Row
     }
 }
 
-pub fn wide(x: u16) -> usize
-    ensures { result ≡ x }
-{
-    x as usize
-}
-
 pub fn flag(b: bool) -> u16
     ensures { result ≡ flag_of b }
 {
-    if b {
-        return 1;
-    }
-    0
+    u16::from(b)
 }
 
 // The key of row k alone.
@@ -84,7 +75,7 @@ pub fn key_at(work: &[u16], k: usize) -> usize
     requires { (k < 256) × (making_size ≤ length work.now) }
     ensures { result ≡ (row_in work.now k).key }
 {
-    wide(work[making_memory::CLAUSES + 8 * k + 5])
+    usize::from(work[making_memory::CLAUSES + 8 * k + 5])
 }
 
 // The first row from number k on, up to number n, that has a key; or n. Most rows are passed here, with one look at each.
@@ -118,7 +109,7 @@ pub fn name_at(work: &[u16], k: usize) -> usize
     requires { (k < 256) × (making_size ≤ length work.now) }
     ensures { result ≡ (row_in work.now k).name }
 {
-    wide(work[making_memory::CLAUSES + 8 * k])
+    usize::from(work[making_memory::CLAUSES + 8 * k])
 }
 
 // A clause begins at an offset: rows stand in the order of the text, so each look passes half of those that are left. Only a yes is to be believed.
@@ -128,7 +119,7 @@ pub fn head_at(work: &[u16], place: usize) -> bool
     ensures { result ≡ true → HeadAt work.now place }
 {
     let mut low: usize = 0;
-    let mut high = wide(work[making_memory::CLAUSE_COUNT]);
+    let mut high = usize::from(work[making_memory::CLAUSE_COUNT]);
     while low < high {
         let middle = (low + high) / 2;
         let name = name_at(work, middle);
@@ -151,15 +142,15 @@ pub fn row_at(work: &[u16], k: usize) -> Row
 {
     let c = making_memory::CLAUSES + 8 * k;
     Row {
-        name: wide(work[c]),
-        typed: wide(work[c + 1]),
-        numbered: wide(work[c + 2]),
-        body: wide(work[c + 3]),
-        end: wide(work[c + 4]),
+        name: usize::from(work[c]),
+        typed: usize::from(work[c + 1]),
+        numbered: usize::from(work[c + 2]),
+        body: usize::from(work[c + 3]),
+        end: usize::from(work[c + 4]),
         sort: 32768 <= work[c + 5],
-        key: wide(work[c + 5]),
-        types: wide(work[c + 6]),
-        numbers: wide(work[c + 7]),
+        key: usize::from(work[c + 5]),
+        types: usize::from(work[c + 6]),
+        numbers: usize::from(work[c + 7]),
     }
 }
 

@@ -25,6 +25,9 @@ pub struct Whole {
     pub seen: usize,
 }
 
+// Text and memory are two parameters in this crate's functions: the text is only read, and a struct with both would be lent to be written, so that each
+// clause would also have to say that the text is as it was. An offset with a sort is no struct either: `clause_end`, `definition` and `rows::row_of` begin a
+// clause there, where `rows::key_of`, `follows::namesake` and `meant::up_to` have the name's place.
 // Where a definition of a sort ends.
 fn clause_end(text: &[u8], at: usize, sort: bool) -> Result<usize, Refusal>
     requires { Lexed text.now at }
@@ -64,7 +67,7 @@ fn item(text: &[u8], work: &mut [u16], at: usize) -> Result<usize, Refusal>
     definition(text, work, at, false)
 }
 
-// A definition begins with a word.
+// A definition begins with a word. Its kind stays a number: `defines_by` is defined over the numbers that `token_code` gives.
 fn defines(kind: u8) -> bool
     ensures { result ≡ defines_by kind }
 {

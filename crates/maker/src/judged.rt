@@ -91,7 +91,7 @@ pub fn judged(text: &[u8], work: &mut [u16]) -> Result<(), Refusal>
     requires { SomeText text.now work.old }
     ensures { JudgedSay text.now work.old result work.new }
 {
-    let n = rows::wide(work[making_memory::CLAUSE_COUNT]);
+    let n = usize::from(work[making_memory::CLAUSE_COUNT]);
     for k in 0..n {
         judge(text, work, k)?;
     }

@@ -26,6 +26,8 @@ pub struct BodyAt {
     pub top: usize,
 }
 
+// Text, memory, frame, top and the frame `into` stay parameters, here and in `placed`, `put_meant`, `put_in` and `put_main`: `put_main` has no frame, `placed`
+// only the new one, and a struct with the text beside the memory that is written would need a clause that the text is as it was.
 // The numbers at an offset, behind the type arguments that wait: 32 and 34 of the grammar, then 34 and 33 of each number.
 fn numbers_behind(
     text: &[u8],

@@ -19,7 +19,7 @@ pub fn place_of(work: &[u16], entry: usize) -> usize
     requires { (entry < most_entries) × (making_size ≤ length work.now) }
     ensures { result ≡ place_in work.now entry }
 {
-    clauses::rows::wide(work[making_memory::SCOPE + 2 * entry])
+    usize::from(work[making_memory::SCOPE + 2 * entry])
 }
 
 // .. and its value.
@@ -27,7 +27,7 @@ pub fn value_of(work: &[u16], entry: usize) -> usize
     requires { (entry < most_entries) × (making_size ≤ length work.now) }
     ensures { (result ≡ value_at work.now entry) × (result < 65536) }
 {
-    work[making_memory::SCOPE + 2 * entry + 1] as usize
+    usize::from(work[making_memory::SCOPE + 2 * entry + 1])
 }
 
 // An entry is set: a name's place and its value.
@@ -40,6 +40,8 @@ pub fn bind(work: &mut [u16], entry: usize, place: usize, value: usize)
     work[at + 1] = value as u16;
 }
 
+// The two bounds, here, in `last_of` and in `last_at`, are fields of a `Frame` or the top of the scope, each read elsewhere alone: a `Range` of them would
+// be made at each call, and is not `Copy`.
 // The first entry of the name at a place between two; or the later of the two.
 pub fn first_of(text: &[u8], work: &[u16], name: usize, from: usize, to: usize) -> usize
     requires { (Places text.now work.now from to) × ((from ≤ to) × (name ≤ length text.now)) }

@@ -18,10 +18,10 @@ pub fn frame_at(work: &[u16], f: usize) -> Frame
 {
     let at = making_memory::FRAMES + 4 * f;
     Frame {
-        seen: clauses::rows::wide(work[at]),
-        types: clauses::rows::wide(work[at + 1]),
-        numbers: clauses::rows::wide(work[at + 2]),
-        variables: clauses::rows::wide(work[at + 3]),
+        seen: usize::from(work[at]),
+        types: usize::from(work[at + 1]),
+        numbers: usize::from(work[at + 2]),
+        variables: usize::from(work[at + 3]),
     }
 }
 

@@ -9,6 +9,8 @@ use crate::entries;
 use clauses::numbers;
 use clauses::numbers::Num;
 
+// Text, memory and a count stay parameters, here, in `name_numbers` and in `arguments::numbers_given`: the text is only read, and a struct with the memory
+// that is written would need a clause that the text is as it was.
 // The n type parameters at an offset name the entries from one on.
 pub fn name_types(text: &[u8], work: &mut [u16], at: usize, n: usize, first: usize)
     requires { (NamesThere text.now at n) × (CanName text.now work.old first n) }

@@ -4,7 +4,6 @@ ghost use Rattle.words.specs.Lexed.{Lexed};
 ghost use Rattle.making_memory.specs.Map.{put_count_at};
 ghost use Rattle.scopes.specs.Puts.{row_cost, PutCounted};
 
-use clauses::rows;
 use clauses::rows::Row;
 
 // One, and one more for each 32 bytes from the name to the word behind the clause.
@@ -28,7 +27,7 @@ pub fn count_put(work: &mut [u16], cost: usize) -> bool
     if 32767 < cost {
         return false;
     }
-    let n = rows::wide(work[making_memory::PUT_COUNT]);
+    let n = usize::from(work[making_memory::PUT_COUNT]);
     if 32767 - cost < n {
         return false;
     }

@@ -19,10 +19,12 @@ use Rattle.walks.specs.Says.{bound_at}
 use Rattle.type_walk.specs.declared.levels.Come.{Come}
 use Rattle.type_walk.specs.declared.levels.Here.{Here}
 use Rattle.type_walk.specs.declared.levels.Walking as code
+use Rattle.type_walk.specs.declared.levels.Side.{Side}
+use Rattle.type_walk.specs.Wishes.{number_said}
 use Rattle.type_walk.specs.declared.levels.Walking.TheVariants as walking
 use Rattle.type_walk.specs.Holding.{given_from, AllBelow, WishKnown, LevelHeld, here_in}
 use Rattle.type_walk.specs.Moves.{CanMove, Moving, Moved, Known, found_in_lem, Given, Both, form_by, side_after, left_with, CanStep, Stepped}
-use Rattle.type_walk.proofs.StepLaws.{come_held, Tells, come_can, come_moved}
+use Rattle.type_walk.proofs.StepLaws.{said-low, come_held, Tells, come_can, come_moved}
 
 -- ---- a wish by its numbers
 
@@ -41,6 +43,12 @@ side_low arrow = (omega arith, omega arith)
 side_low linear = (omega arith, omega arith)
 
 module _ (text w : List ℕ) (n top : ℕ) (L : Level) where
+  form-most : (x : Wish) → HoldsWish text w top L x → L.form ≤ 5
+  form-most enclosed h = omega (arith, h)
+  form-most (body us) h = omega (arith, h.0)
+  form-most (argument x given) h = omega (arith, h.0)
+  form-most (other f at t) h = omega (arith, h.0, (side_low f).1)
+
   inside-wish : (x : Wish) → HoldsWish text w top L x → L.form ≡ 0 → x ≡ enclosed
   inside-wish enclosed h e = refl
   inside-wish (body us) h e = absurd (omega (arith, h.0, e))
@@ -108,6 +116,9 @@ module _ (text w : List ℕ) (q : Come) (h : Here) (is_here : h ≡ here_in w q.
   form_of : {k : ℕ} → L.form ≡ k → stored.form ≡ k
   form_of e = ap (λ (z : Level). z.form) (sym is-level) ∙ e
 
+  pub form-few : CanStep text w (walking.Came q) → L.form ≤ 5
+  form-few C = let D = come_held text w q C in subst (λ (y : Level). y.form ≤ 5) (sym is-level) (form-most text w 0 top stored D.l.wish D.level.wish)
+
   form-not : {k : ℕ} → ¬ (L.form ≡ k) → ¬ (stored.form ≡ k)
   form-not n e = n (ap (λ (z : Level). z.form) is-level ∙ e)
 
@@ -169,7 +180,10 @@ module _ (text w : List ℕ) (q : Come) (h : Here) (is_here : h ≡ here_in w q.
     pub argument-stepped : (w' : List ℕ) (r : Result code.Walking Refusal) → Moved text w h P go r w' → Stepped text w (walking.Came q) r w'
     argument-stepped w' r M = come_moved text w q P go tells-argument w' r (subst (λ (y : Here). Moved text w y P go r w') is_here M)
 
-  module _ (a : ¬ (L.form ≡ 0)) (b : ¬ (L.form ≡ 1)) (c : ¬ (L.form ≡ 2)) where
+  module _ (between : Side) (is_form : L.form ≡ number_said between) where
+    other-than : {k : ℕ} → k < 3 → ¬ (L.form ≡ k)
+    other-than low e = let least = (said-low between).0 in absurd (omega (arith, low, e, is_form, least))
+
     abbrev R : State → Type 0
     R = Both (Known L.ty) (Known q.ty)
 
@@ -177,16 +191,14 @@ module _ (text w : List ℕ) (q : Come) (h : Here) (is_here : h ≡ here_in w q.
     side = left_with text (other (form_by L.form) L.place L.ty) q.ty q.at
 
     side-of : (X : Text) (σ : State) (l : TypeLevel) → LevelHeld text w X σ q.more l → SideWish text w (length σ.table) top L l.wish
-    side-of X σ l H = subst (λ (y : Level). SideWish text w (length σ.table) top y l.wish) (sym is-level) (side-wish text w (length σ.table) top stored l.wish H.wish H.known (form-not a) (form-not b) (form-not c))
+    side-of X σ l H = subst (λ (y : Level). SideWish text w (length σ.table) top y l.wish) (sym is-level) (side-wish text w (length σ.table) top stored l.wish H.wish H.known (form-not (other-than (omega arith))) (form-not (other-than (omega arith))) (form-not (other-than (omega arith))))
 
     tells-side : Tells text w q R side
     tells-side = record { knows = λ X σ l H k. ((side-of X σ l H).below, k); does = λ X σ l H k. wished side X σ l (other (form_by L.form) L.place L.ty) (side-of X σ l H).is (λ bodies t. refl) }
 
-    pub side-can : CanStep text w (walking.Came q) → CanMove text w h R × (Lexed text q.at × ((3 ≤ L.form) × (L.form ≤ 5)))
+    pub side-can : CanStep text w (walking.Came q) → CanMove text w h R × (Lexed text q.at × (L.form ≡ number_said between))
     side-can C =
-        let D = come_held text w q C in
-        let s = side-of C.X D.state D.l D.level in
-        (subst (λ (y : Here). CanMove text w y R) (sym is_here) (come_can text w q R side tells-side C), (D.lexed, (s.low, s.high)))
+        (subst (λ (y : Here). CanMove text w y R) (sym is_here) (come_can text w q R side tells-side C), ((come_held text w q C).lexed, is_form))
 
     pub side-stepped : (w' : List ℕ) (r : Result code.Walking Refusal) → Moved text w h R side r w' → Stepped text w (walking.Came q) r w'
     side-stepped w' r M = come_moved text w q R side tells-side w' r (subst (λ (y : Here). Moved text w y R side r w') is_here M)

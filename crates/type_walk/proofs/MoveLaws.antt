@@ -7,7 +7,6 @@ use native.Mathlib.Omega.{arith}
 use native.Mathlib.Numerals.{add-one}
 use lib.Dec.{eqb}
 use lib.ListN.{length, drop, length-drop}
-use borrow.Author.Tests.{eqb-true, eqb-false}
 use Rattle.std.proofs.Common.{Result, Ok, Err}
 use Rattle.answers.specs.declared.Refusal.{Refusal}
 use Rattle.answers.specs.Refusals.{said_why}
@@ -30,6 +29,8 @@ use Rattle.walks.specs.Walked.{TypesWalked}
 use Rattle.walks.proofs.Kept.{types_walked_none, types_walked_then, bodies_on}
 use Rattle.type_walk.specs.declared.levels.Here.{Here}
 use Rattle.type_walk.specs.declared.levels.Walking as code
+use Rattle.type_walk.specs.declared.levels.Side.{Side}
+use Rattle.type_walk.specs.Wishes.{number_said}
 use Rattle.type_walk.specs.Holding.{here_with, AtLevel, Answers}
 use Rattle.type_walk.specs.Moves.{CanMove, Waited, Moving, Moved, Known, found_in_lem, done_at, form_by, side_after, arrow_after, done_after, side_ask}
 use Rattle.type_walk.proofs.HoldLaws.{at_on}
@@ -112,21 +113,18 @@ done_moved text w h ty at r l e = subst (λ (y : code.Walking). Moved text w h (
 
 -- ---- sides
 
-form_by_lem : (n : ℕ) (c d : Bool) → eqb n 3 ≡ c → eqb n 4 ≡ d → 3 ≤ n → n ≤ 5 → n ≡ side_number (cond c product (cond d Trees.arrow Trees.linear))
-form_by_lem n true d e f a b = eqb-true n 3 e
-form_by_lem n false true e f a b = eqb-true n 4 f
-form_by_lem n false false e f a b = let g = eqb-false n 3 e in let k = eqb-false n 4 f in omega arith
-
-pub form_number : (n : ℕ) → 3 ≤ n → n ≤ 5 → n ≡ side_number (form_by n)
-form_number n a b = form_by_lem n (eqb n 3) (eqb n 4) refl refl a b
+number_back : (side : Side) → number_said side ≡ side_number (form_by (number_said side))
+number_back Side.Product = refl
+number_back Side.Arrow = refl
+number_back Side.Linear = refl
 
 pub side_asked :
-    (text w w' : List ℕ) (h : Here) (form ty sign end flag : ℕ) (tight : Bool) (r : code.Walking) → CanMove text w h (Known ty) → Lexed text end → 3 ≤ form → form ≤ 5 → flag ≡ flag_number h.tight
+    (text w w' : List ℕ) (h : Here) (side : Side) (form ty sign end flag : ℕ) (tight : Bool) (r : code.Walking) → CanMove text w h (Known ty) → Lexed text end → form ≡ number_said side → flag ≡ flag_number h.tight
     → Waited w h (record { form = form; flag = flag; place = sign; count = 0; node = 0; ty = ty; deep = 0; next = 0 }) (record { more = h.more; tight = tight; frame = h.frame; top = h.top; at = end }) r w'
-    → Moved text w h (Known ty) (side_ask text form tight ty sign end) (Ok r) w'
-side_asked text w w' h form ty sign end flag tight r C l a b f g =
+    → Moved text w h (Known ty) (side_ask text (number_said side) tight ty sign end) (Ok r) w'
+side_asked text w w' h side form ty sign end flag tight r C l n f g =
     let waits = can_wait text w C.X C.m₀ C.base C.σ h C.S C.K C.held in
-    waited_moved text w h _ _ r w' (Known ty) (side_ask text form tight ty sign end) waits g (λ X m₀ base σ S K A k. ask_held w h _ waits text X m₀ base σ S K A (other (form_by form) sign ty) tight h.frame h.top end S f (form_number form a b, refl, refl) k (places-none text w h.top A.walkable.scope.places) (omega (arith, A.level)) (omega arith) A.walkable l)
+    waited_moved text w h _ _ r w' (Known ty) (side_ask text (number_said side) tight ty sign end) waits g (λ X m₀ base σ S K A k. ask_held w h _ waits text X m₀ base σ S K A (other (form_by (number_said side)) sign ty) tight h.frame h.top end S f (n ∙ number_back side, refl, refl) k (places-none text w h.top A.walkable.scope.places) (omega (arith, A.level)) (omega arith) A.walkable l)
 
 -- the side behind the sign that stands at an offset
 module _ (text : List ℕ) (at : ℕ) (v : Said) (m : Marks text at v) where

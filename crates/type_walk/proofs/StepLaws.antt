@@ -1,5 +1,6 @@
 -- One step of the walk: a type is wanted, or one came that a level waited for. One law for each way out. Assumes nothing.
 use Prim.Native.Nat.{ℕ, zero, suc, ◌+◌, ◌*◌, ◌-◌, ◌≤◌, ◌<◌}
+use mathlib.Core.Logic.{◌⊎◌, inl, inr}
 use mathlib.Core.Path.{◌≡◌, refl, sym, ap, subst, ◌∙◌}
 use mathlib.Core.Bool.{Bool, true, false, cond}
 use mathlib.Core.List.{List, [], ◌∷◌}
@@ -28,9 +29,9 @@ use Rattle.words.specs.Next.{Said, run_at}
 use Rattle.words.specs.Lexed.{from, Lexed, Stands}
 use Rattle.grammar.proofs.EndLaws.{sign_not, is_yes, is_no}
 use Rattle.making_memory.specs.Map.{scope_at, type_count_at, node_count_at, put_count_at, making_size}
-use Rattle.made_types.specs.declared.Kind.{Kind}
 use Rattle.made_types.specs.declared.Record.{Record}
 use Rattle.made_types.specs.Held.{HoldsState}
+use Rattle.made_types.specs.declared.Kind.{Kind}
 use Rattle.made_types.specs.Listing.{kind_byte, rec_of_kind, record_of_lem, Listable, FoundIn, ListedSays}
 use Rattle.made_types.proofs.Keeping.{state_kept}
 use Rattle.clauses.specs.Meant.{values_in}
@@ -47,9 +48,11 @@ use Rattle.type_walk.specs.declared.levels.Want.{Want}
 use Rattle.type_walk.specs.declared.levels.Come.{Come}
 use Rattle.type_walk.specs.declared.levels.Here.{Here}
 use Rattle.type_walk.specs.declared.levels.Walking as code
+use Rattle.type_walk.specs.declared.levels.Side.{Side}
+use Rattle.type_walk.specs.Wishes.{number_said, kind_said}
 use Rattle.type_walk.specs.declared.levels.Walking.TheVariants as walking
 use Rattle.type_walk.specs.Holding.{given_from, AllBelow, LevelHeld, LevelsHeld, here_with, here_in, AtLevel, Wanting, Coming}
-use Rattle.type_walk.specs.Moves.{CanMove, Waited, Moving, Moved, Known, found_in_lem, Given, Valued, Both, Anything, NameAt, form_by, kind_by, side_after, arrow_after, done_after, ones_after, argument_ask, put_after, named_after, inside_ask, enter_at, left_with, side_done, CanStep, Stepped}
+use Rattle.type_walk.specs.Moves.{CanMove, Waited, Moving, Moved, Known, found_in_lem, Given, Valued, Both, Anything, NameAt, form_by, side_after, arrow_after, done_after, ones_after, argument_ask, put_after, named_after, inside_ask, enter_at, left_with, side_done, CanStep, Stepped}
 use Rattle.type_walk.proofs.HoldLaws.{at_on, walked-wider, levels_within}
 use Rattle.type_walk.proofs.AskLaws.{can_wait, ask_held, places-none, waited_moved}
 use Rattle.type_walk.proofs.MoveLaws.{onward, answered_as, moved_as, moved_after, refused_moved}
@@ -269,6 +272,15 @@ module _ (text w w' : List ℕ) (h : Here) (form ty at : ℕ) (r : Result code.W
   pub side_done_lem : ¬ (form ≡ 3) → Moved text w h (Known ty) (done_after text ty at) r w' → Moved text w h (Known ty) (side_done text form ty at) r w'
   side_done_lem n M = moved_as (Known ty) (done_after text ty at) (side_done text form ty at) (λ X bodies σ S K. ap (λ (b : Bool). good (behind_side (cond b product (cond (eqb form 4) arrow linear)) (here_with h S K) (found_in_lem ty σ) (from text at))) (ne_eqb form 3 n) ∙ ap good (done-by (eqb form 4) (here_with h S K) (found_in_lem ty σ) (from text at))) M
 
+pub said-low : (side : Side) → (3 ≤ number_said side) × (number_said side ≤ 5)
+said-low Side.Product = (omega arith, omega arith)
+said-low Side.Arrow = (omega arith, omega arith)
+said-low Side.Linear = (omega arith, omega arith)
+
+pub not-product : (side : Side) → (side ≡ Side.Arrow) ⊎ (side ≡ Side.Linear) → ¬ (number_said side ≡ 3)
+not-product side (inl e) z = let n : number_said side ≡ 4 = ap number_said e in absurd (omega (arith, n, z))
+not-product side (inr e) z = let n : number_said side ≡ 5 = ap number_said e in absurd (omega (arith, n, z))
+
 -- 3, 4 or 5
 by_form : (P : ℕ → Type 0) → P 3 → P 4 → P 5 → (n : ℕ) → 3 ≤ n → n ≤ 5 → P n
 by_form P a b c n low high = elim (dec_le 4 n) [
@@ -279,15 +291,21 @@ by_form P a b c n low high = elim (dec_le 4 n) [
   ]
 ]
 
--- the record of a form, as the table's code has it
-form_record : (form a b : ℕ) → 3 ≤ form → form ≤ 5 → form_of (form_by form) a b ≡ rec_of_kind (kind_byte (kind_by form)) a b
-form_record form a b low high = by_form (λ (n : ℕ). form_of (form_by n) a b ≡ rec_of_kind (kind_byte (kind_by n)) a b) refl refl refl form low high
+-- the record of a sign's two sides, as the table's code has it
+said_record : (side : Side) (a b : ℕ) → form_of (form_by (number_said side)) a b ≡ rec_of_kind (kind_byte (kind_said side)) a b
+said_record Side.Product a b = refl
+said_record Side.Arrow a b = refl
+said_record Side.Linear a b = refl
 
-form_below : (k form a b : ℕ) → 3 ≤ form → form ≤ 5 → a < k → b < k → Below k (rec_of_kind (kind_byte (kind_by form)) a b)
-form_below k form a b low high x y = by_form (λ (n : ℕ). Below k (rec_of_kind (kind_byte (kind_by n)) a b)) (x, y) (x, y) (x, y) form low high
+said_below : (side : Side) (k a b : ℕ) → a < k → b < k → Below k (rec_of_kind (kind_byte (kind_said side)) a b)
+said_below Side.Product k a b x y = (x, y)
+said_below Side.Arrow k a b x y = (x, y)
+said_below Side.Linear k a b x y = (x, y)
 
-form_lists : (form : ℕ) → 3 ≤ form → form ≤ 5 → 2 ≤ kind_byte (kind_by form)
-form_lists form low high = by_form (λ (n : ℕ). 2 ≤ kind_byte (kind_by n)) (omega arith) (omega arith) (omega arith) form low high
+said_lists : (side : Side) → 2 ≤ kind_byte (kind_said side)
+said_lists Side.Product = omega arith
+said_lists Side.Arrow = omega arith
+said_lists Side.Linear = omega arith
 
 -- .. of the same kind
 pub listable_as : (w : List ℕ) (k k' : Kind) (a b : ℕ) → k ≡ k' → Listable w (record { kind = k'; left = a; right = b }) → Listable w (record { kind = k; left = a; right = b })
@@ -296,9 +314,9 @@ listable_as w k k' a b e L = subst (λ (q : Kind). Listable w (record { kind = q
 pub listed_as : (w : List ℕ) (k k' : Kind) (a b place : ℕ) (x : Result ℕ Refusal) (w' : List ℕ) → k ≡ k' → ListedSays w (record { kind = k; left = a; right = b }) place x w' → ListedSays w (record { kind = k'; left = a; right = b }) place x w'
 listed_as w k k' a b place x w' e L = subst (λ (q : Kind). ListedSays w (record { kind = q; left = a; right = b }) place x w') e L
 
-module _ (text w w₁ : List ℕ) (h : Here) (l : Level) (ty at : ℕ) (low : 3 ≤ l.form) (high : l.form ≤ 5) where
+module _ (text w w₁ : List ℕ) (h : Here) (l : Level) (side : Side) (is_form : l.form ≡ number_said side) (ty at : ℕ) where
   abbrev rec : Record
-  rec = record { kind = kind_by l.form; left = l.ty; right = ty }
+  rec = record { kind = kind_said side; left = l.ty; right = ty }
 
   abbrev P : State → Type 0
   P = Both (Known l.ty) (Known ty)
@@ -308,7 +326,7 @@ module _ (text w w₁ : List ℕ) (h : Here) (l : Level) (ty at : ℕ) (low : 3 
       let H = C.held.walkable.state.types in
       let few = H.ok.few in
       let k = C.known in
-      record { room = H.room; count = omega (arith, H.count); form = form_lists l.form low high; left = omega (arith, k.0); right = omega (arith, k.1) }
+      record { room = H.room; count = omega (arith, H.count); form = said_lists side; left = omega (arith, k.0); right = omega (arith, k.1) }
 
   abbrev answer : State → Answer Found
   answer σ = listed σ (record_of_lem rec) l.place
@@ -317,10 +335,10 @@ module _ (text w w₁ : List ℕ) (h : Here) (l : Level) (ty at : ℕ) (low : 3 
   go_on_lem t y = good (behind_side (form_by l.form) t y (from text at))
 
   left_is : (X : Text) (bodies : List (List Word)) (t : TypeHere) (σ : State) → left_with text (other (form_by l.form) l.place l.ty) ty at X bodies t σ ≡ (answer σ >>= go_on_lem t)
-  left_is X bodies t σ = ap (λ (q : TyRec). listed σ q l.place >>= go_on_lem t) (form_record l.form l.ty ty low high)
+  left_is X bodies t σ = ap (λ (q : TyRec). listed σ q l.place >>= go_on_lem t) (ap (λ (n : ℕ). form_of (form_by n) l.ty ty) is_form ∙ said_record side l.ty ty)
 
   known-listed : (x : Result ℕ Refusal) → ListedSays w rec l.place x w₁ → (σ : State) → HoldsState w σ → P σ → FoundIn w₁ x (answer σ)
-  known-listed x L σ H (a, b) = L.says σ H (form_below (length σ.table) l.form l.ty ty low high a b)
+  known-listed x L σ H (a, b) = L.says σ H (said_below side (length σ.table) l.ty ty a b)
 
   abbrev leaves : Moving
   leaves = left_with text (other (form_by l.form) l.place l.ty) ty at
@@ -332,8 +350,8 @@ module _ (text w w₁ : List ℕ) (h : Here) (l : Level) (ty at : ℕ) (low : 3 
     pub can-after : CanMove text w₁ h (Known t)
     can-after = table-can text w w₁ h P answer go_on_lem leaves left_is C L.only x (known-listed x L) t is_x
 
-    pub side-listed : (w₂ : List ℕ) (r : Result code.Walking Refusal) → Moved text w₁ h (Known t) (side_done text l.form t at) r w₂ → Moved text w h P leaves r w₂
-    side-listed w₂ r M = table-found text w w₁ h P answer go_on_lem leaves left_is C L.only x (known-listed x L) t is_x (side_done text l.form t at) (λ X bodies u σ. refl) w₂ r M
+    pub side-listed : (w₂ : List ℕ) (r : Result code.Walking Refusal) → Moved text w₁ h (Known t) (side_done text (number_said side) t at) r w₂ → Moved text w h P leaves r w₂
+    side-listed w₂ r M = table-found text w w₁ h P answer go_on_lem leaves left_is C L.only x (known-listed x L) t is_x (side_done text l.form t at) (λ X bodies u σ. refl) w₂ r (subst (λ (n : ℕ). Moved text w₁ h (Known t) (side_done text n t at) r w₂) (sym is_form) M)
 
 -- ---- a step at a type that came
 

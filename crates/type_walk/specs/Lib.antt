@@ -2,3 +2,4 @@ pub mod Holding
 pub mod Moves
 pub mod Loop
 pub mod Many
+pub mod Wishes

@@ -11,7 +11,6 @@ use Rattle.notation_machine.specs.TypeSteps.{Going}
 use Rattle.words.specs.Next.{run_at}
 use Rattle.words.specs.Lexed.{from, Lexed}
 use Rattle.making_memory.specs.Map.{making_size}
-use Rattle.made_types.specs.declared.Kind.{Kind}
 use Rattle.clauses.specs.Meant.{values_in}
 use Rattle.walk_levels.specs.declared.Level.{Level}
 use Rattle.walk_levels.specs.Levels.{pushed}
@@ -86,10 +85,6 @@ done_at h ty at = walking.Came (record { more = h.more + 1; top = h.top; ty = ty
 -- 3 for a product, 4 for an arrow, 5 for a linear one
 abbrev pub form_by : ℕ → Form
 form_by n = cond (eqb n 3) product (cond (eqb n 4) arrow linear)
-
--- .. as a kind of the table of types
-abbrev pub kind_by : ℕ → Kind
-kind_by n = cond (eqb n 3) Kind.Product (cond (eqb n 4) Kind.Arrow Kind.Linear)
 
 -- behind an atom; behind its product
 abbrev pub side_after : List ℕ → ℕ → ℕ → Moving

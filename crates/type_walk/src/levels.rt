@@ -1,11 +1,72 @@
 // What the walk is at, and the levels that wait.
-ghost use Rattle.std.specs.Prelude.{◌≡◌, ◌+◌};
+ghost use Rattle.std.specs.Prelude.{◌≡◌, ◌≤◌, ◌+◌};
 ghost use Rattle.walk_levels.specs.Levels.{InLevels, level_in, pushed};
 ghost use Rattle.walk_levels.specs.TypeLevels.{flag_number};
 ghost use Rattle.type_walk.specs.Holding.{around_of, here_in};
 ghost use Rattle.type_walk.specs.Moves.{CanWait, Waited};
+ghost use Rattle.type_walk.specs.Wishes.{number_said, kind_said, WishIs};
 
+use made_types::Kind;
 use walk_levels::{Around, Level};
+
+// The forms of a level that waits for no side: for what stands in parentheses, for a definition's body, for an argument of a name.
+pub const INSIDE: u16 = 0;
+
+pub const BODY: u16 = 1;
+
+pub const ARGUMENT: u16 = 2;
+
+// The sign between two sides, and the form of the level that waits for the other side.
+#[derive(Clone, Copy, Debug, PartialEq, Eq)]
+pub enum Side {
+    Product = 3,
+    Arrow = 4,
+    Linear = 5,
+}
+
+impl Side {
+    // The form's number, as the memory holds it: no derive gives it.
+    pub fn number(self) -> u16
+        ensures { result ≡ number_said self }
+    {
+        self as u16
+    }
+
+    // The kind of the type that the sign makes of its sides.
+    pub fn kind(self) -> Kind
+        ensures { result ≡ kind_said self }
+    {
+        match self {
+            Side::Product => Kind::Product,
+            Side::Arrow => Kind::Arrow,
+            Side::Linear => Kind::Linear,
+        }
+    }
+}
+
+// What a level waits for.
+#[derive(Clone, Copy, Debug, PartialEq, Eq)]
+pub enum Wish {
+    Inside,
+    Body,
+    Argument,
+    Other(Side),
+}
+
+// .. by its form. The memory holds numbers, so that one place has to make wishes of them.
+pub fn wish_of(form: u16) -> Wish
+    requires { form ≤ 5 }
+    ensures { WishIs form result }
+{
+    match form {
+        INSIDE => Wish::Inside,
+        BODY => Wish::Body,
+        ARGUMENT => Wish::Argument,
+        3 => Wish::Other(Side::Product),
+        4 => Wish::Other(Side::Arrow),
+        _ => Wish::Other(Side::Linear),
+    }
+}
 
 // A type is wanted at an offset, with so many levels left, in the scope of a frame and so many entries; no arrow is read behind a tight one.
 #[derive(Clone, Copy, Debug, PartialEq, Eq)]

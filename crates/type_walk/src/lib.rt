@@ -69,6 +69,9 @@ fn type_at(
     }
 }
 
+// Text and memory are two parameters in all functions of this crate: the text is only read, and in a struct with the memory, which is written, each clause
+// would also have to say that the text is as it was. The offset, the levels, the frame and the entries stay four, here, in `type_at`, `types_from` and
+// `arguments`: `levels::Want` has them with `tight`, which no caller of these chooses, and `arguments` changes the offset and the entries for each type.
 // The type at an offset, as a walk of terms wants it: read by the grammar, then worked out.
 pub fn type_from(
     text: &[u8],

@@ -12,6 +12,8 @@ use grammar::steps::{CURLY, SQUARE};
 use walk_levels::Level;
 use walks::PutAt;
 
+// A name, the count of its arguments and the offset behind them stay three parameters, here, in `put_type`, `plain_at`, `named_at` and
+// `steps::behind_argument`: each call changes one of them and hands the others on.
 // The next argument is wanted, of a name at a place, where so many wait already.
 pub fn ask_argument(
     text: &[u8],
@@ -28,7 +30,7 @@ pub fn ask_argument(
         return Err(Reason::TextLimit.at(name));
     }
     let l = Level {
-        form: 2,
+        form: levels::ARGUMENT,
         flag: levels::flag_of(h.tight),
         place: name as u16,
         count: given as u16,
@@ -53,7 +55,7 @@ fn ask_body(text: &[u8], work: &mut [u16], h: Here, p: PutAt) -> Result<Walking,
     ensures { BodyAsked text.now work.old h p result work.new }
 {
     let l = Level {
-        form: 1,
+        form: levels::BODY,
         flag: levels::flag_of(h.tight),
         place: 0,
         count: 0,

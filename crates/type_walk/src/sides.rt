@@ -2,9 +2,10 @@
 ghost use Rattle.std.specs.Prelude.{◌≡◌, ◌≤◌, ◌<◌, length};
 ghost use Rattle.words.specs.Lexed.{Lexed};
 ghost use Rattle.type_walk.specs.Moves.{CanMove, Moved, Known, done_at, side_ask, arrow_after, side_after};
+ghost use Rattle.type_walk.specs.Wishes.{number_said};
 
 use crate::levels;
-use crate::levels::{Come, Here, Walking, Want};
+use crate::levels::{Come, Here, Side, Walking, Want};
 use answers::Refusal;
 use walk_levels::Level;
 
@@ -27,22 +28,22 @@ pub fn done(h: Here, ty: u16, at: usize) -> Walking
     })
 }
 
-// The side behind the sign at a place, up to which a type stands, is wanted: 3 for a product, 4 for an arrow, 5 for a linear one.
+// The side behind the sign at a place, up to which a type stands, is wanted.
 fn ask_side(
     text: &[u8],
     work: &mut [u16],
     h: Here,
-    form: u16,
+    side: Side,
     tight: bool,
     ty: u16,
     sign: usize,
     end: usize,
 ) -> Result<Walking, Refusal>
-    requires { (CanMove text.now work.old h (Known ty)) × ((Lexed text.now end) × ((sign ≤ length text.now) × ((3 ≤ form) × (form ≤ 5)))) }
-    ensures { Moved text.now work.old h (Known ty) (side_ask text.now form tight ty sign end) result work.new }
+    requires { (CanMove text.now work.old h (Known ty)) × ((Lexed text.now end) × (sign ≤ length text.now)) }
+    ensures { Moved text.now work.old h (Known ty) (side_ask text.now (number_said side) tight ty sign end) result work.new }
 {
     let l = Level {
-        form,
+        form: side.number(),
         flag: levels::flag_of(h.tight),
         place: sign as u16,
         count: 0,
@@ -77,14 +78,16 @@ pub fn arrow_from(
     }
     let w = words::marks::mark_at(text, at);
     if w.kind == ARROW {
-        return ask_side(text, work, h, 4, false, ty, w.start, w.end);
+        return ask_side(text, work, h, Side::Arrow, false, ty, w.start, w.end);
     }
     if w.kind == LINEAR {
-        return ask_side(text, work, h, 5, false, ty, w.start, w.end);
+        return ask_side(text, work, h, Side::Linear, false, ty, w.start, w.end);
     }
     Ok(done(h, ty, at))
 }
 
+// A type and the offset behind it are passed one by one, here, in `done`, `arrow_from` and the functions of `steps` behind a type that came: they come from
+// two places (`rows`, `names::plain_at`, `steps::behind_side`), so that each of these calls would have to make a `walks::TypeEnd` of them first.
 // Behind an atom.
 pub fn side_from(
     text: &[u8],
@@ -98,7 +101,7 @@ pub fn side_from(
 {
     let w = words::marks::mark_at(text, at);
     if w.kind == TIMES {
-        return ask_side(text, work, h, 3, true, ty, w.start, w.end);
+        return ask_side(text, work, h, Side::Product, true, ty, w.start, w.end);
     }
     arrow_from(text, work, h, ty, at)
 }

@@ -6,14 +6,15 @@ ghost use Rattle.words.specs.Lexed.{Lexed};
 ghost use Rattle.scopes.specs.Entries.{Places};
 ghost use Rattle.walks.specs.Says.{bound_at};
 ghost use Rattle.type_walk.specs.Holding.{given_from};
-ghost use Rattle.type_walk.specs.Moves.{CanMove, Moved, Known, Given, Both, Anything, inside_ask, enter_at, left_with, side_done, form_by, kind_by, CanStep, Stepped};
+ghost use Rattle.type_walk.specs.Moves.{CanMove, Moved, Known, Given, Both, Anything, inside_ask, enter_at, left_with, side_done, form_by, CanStep, Stepped};
+ghost use Rattle.type_walk.specs.Wishes.{number_said};
 ghost use Rattle.type_walk.specs.declared.levels.Walking.TheVariants as walking;
 
-use crate::levels::{Come, Here, Walking, Want};
+use crate::levels::{Come, Here, Side, Walking, Want, Wish};
 use crate::{levels, names, rows, sides};
 use answers::{Reason, Refusal};
 use grammar::steps::{COMMA, END_SQUARE};
-use made_types::{Kind, Record};
+use made_types::Record;
 use walk_levels::Level;
 
 const ROUND: u8 = 11;
@@ -28,7 +29,7 @@ fn ask_inside(text: &[u8], work: &mut [u16], h: Here, at: usize) -> Result<Walki
     ensures { Moved text.now work.old h Anything (inside_ask text.now at) result work.new }
 {
     let l = Level {
-        form: 0,
+        form: levels::INSIDE,
         flag: levels::flag_of(h.tight),
         place: 0,
         count: 0,
@@ -47,7 +48,7 @@ fn ask_inside(text: &[u8], work: &mut [u16], h: Here, at: usize) -> Result<Walki
     Ok(levels::wait(work, h, l, q))
 }
 
-// A type begins at an offset.
+// A type begins at an offset. There is no enum to match on: a word's kind is the number that `token_code` gives (`words::Word`).
 fn enter(text: &[u8], work: &mut [u16], h: Here, at: usize) -> Result<Walking, Refusal>
     requires { (CanMove text.now work.old h Anything) × (Lexed text.now at) }
     ensures { Moved text.now work.old h Anything (enter_at text.now at) result work.new }
@@ -125,32 +126,21 @@ fn behind_argument(
     Err(Reason::OtherWordDue.at(w.start))
 }
 
-// Behind the other side: a product may have an arrow behind it.
+// Behind the other side of a sign: a product may have an arrow behind it.
 fn after_side(
     text: &[u8],
     work: &mut [u16],
     h: Here,
-    form: u16,
+    side: Side,
     ty: u16,
     at: usize,
 ) -> Result<Walking, Refusal>
     requires { (CanMove text.now work.old h (Known ty)) × (Lexed text.now at) }
-    ensures { Moved text.now work.old h (Known ty) (side_done text.now form ty at) result work.new }
+    ensures { Moved text.now work.old h (Known ty) (side_done text.now (number_said side) ty at) result work.new }
 {
-    if form == 3 {
-        return sides::arrow_from(text, work, h, ty, at);
-    }
-    Ok(sides::done(h, ty, at))
-}
-
-// The kind of the type whose other side waits at a level of a form.
-fn kind_by(form: u16) -> Kind
-    ensures { result ≡ kind_by form }
-{
-    match form {
-        3 => Kind::Product,
-        4 => Kind::Arrow,
-        _ => Kind::Linear,
+    match side {
+        Side::Product => sides::arrow_from(text, work, h, ty, at),
+        Side::Arrow | Side::Linear => Ok(sides::done(h, ty, at)),
     }
 }
 
@@ -160,19 +150,20 @@ fn behind_side(
     work: &mut [u16],
     h: Here,
     l: Level,
+    side: Side,
     ty: u16,
     at: usize,
 ) -> Result<Walking, Refusal>
-    requires { (CanMove text.now work.old h (Both (Known l.ty) (Known ty))) × ((Lexed text.now at) × ((3 ≤ l.form) × (l.form ≤ 5))) }
+    requires { (CanMove text.now work.old h (Both (Known l.ty) (Known ty))) × ((Lexed text.now at) × (l.form ≡ number_said side)) }
     ensures { Moved text.now work.old h (Both (Known l.ty) (Known ty)) (left_with text.now (other (form_by l.form) l.place l.ty) ty at) result work.new }
 {
     let r = Record {
-        kind: kind_by(l.form),
+        kind: side.kind(),
         left: l.ty,
         right: ty,
     };
     let t = made_types::listed(work, r, l.place)?;
-    after_side(text, work, h, l.form, t, at)
+    after_side(text, work, h, side, t, at)
 }
 
 fn come_step(text: &[u8], work: &mut [u16], q: Come) -> Result<Walking, Refusal>
@@ -181,18 +172,16 @@ fn come_step(text: &[u8], work: &mut [u16], q: Come) -> Result<Walking, Refusal>
 {
     let h = levels::here_at(work, q.more);
     let l = levels::waits_at(work, q.more);
-    if l.form == 0 {
-        return behind_inside(text, work, h, q.ty, q.at);
+    match levels::wish_of(l.form) {
+        Wish::Inside => behind_inside(text, work, h, q.ty, q.at),
+        Wish::Body => sides::side_from(text, work, h, q.ty, usize::from(l.next)),
+        Wish::Argument => {
+            let name = usize::from(l.place);
+            let given = usize::from(l.count);
+            behind_argument(text, work, h, name, given, q.ty, q.at)
+        }
+        Wish::Other(side) => behind_side(text, work, h, l, side, q.ty, q.at),
     }
-    if l.form == 1 {
-        return sides::side_from(text, work, h, q.ty, usize::from(l.next));
-    }
-    if l.form == 2 {
-        let name = usize::from(l.place);
-        let given = usize::from(l.count);
-        return behind_argument(text, work, h, name, given, q.ty, q.at);
-    }
-    behind_side(text, work, h, l, q.ty, q.at)
 }
 
 pub fn step(text: &[u8], work: &mut [u16], s: Walking) -> Result<Walking, Refusal>

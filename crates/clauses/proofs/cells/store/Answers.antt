@@ -1,21 +1,13 @@
 -- `clauses::store` meets its contract. The invariant: the cells of the numbers that were read stand there, and the others are left. Assumes nothing.
-use mathlib.Core.Path.{◌∙◌}
-use lib.ListN.{length-set}
 use native.Mathlib.Omega.{arith}
 use Rattle.clauses.proofs.NumberLaws.{number_there}
-use Rattle.clauses.proofs.CellLaws.{keeping_none, keeping-more, keeping_all}
+use Rattle.clauses.proofs.CellLaws.{keeping-more, keeping_all}
 use Rattle.clauses.proofs.cells.store.Goals as goal
-
-pub loop-i-init : goal.loop-i-init
-loop-i-init c = keeping_none c.args.text.now c.args.work.now c.args.k c.args.at c.args.n c.requires.0
 
 pub number_behind-x-requires : goal.number_behind-x-requires
 number_behind-x-requires c =
     let l = c.loop-i in
     (l.invariant.there.lexed, number_there c.args.text.now l.p _ l.invariant.there (omega (arith, c.loop-i-test.true, c.cells_in-c.ensures.most)))
-
-pub cell_of-requires : goal.cell_of-requires
-cell_of-requires c = c.number_behind-x.ensures.small
 
 pub bounds-work-row : goal.bounds-work-row
 bounds-work-row c =
@@ -28,15 +20,6 @@ loop-i-preserved c =
     let m = c.cells_in-c in
     let x = c.number_behind-x in
     keeping-more c.args.text.now c.args.work.now c.args.k c.args.at c.args.n c.requires.1.1.0 c.requires.1.1.1 l.work l.i l.p l.invariant m.result m.ensures c.loop-i-test.true x.result x.ensures c.cell_of.result c.cell_of.ensures
-
-pub overflow_cast-work : goal.overflow_cast-work
-overflow_cast-work c = omega (arith, c.requires.1.0, c.loop-i.invariant.there.lexed.within)
-
-pub bounds-work-row-2 : goal.bounds-work-row-2
-bounds-work-row-2 c = omega (arith, c.requires.1.1.0, c.requires.1.1.1, c.loop-i.invariant.same)
-
-pub shape_of-work : goal.shape_of-work
-shape_of-work c = length-set c.loop-i.work _ _ ∙ c.loop-i.invariant.same
 
 pub returns : goal.returns
 returns c =

@@ -1,7 +1,6 @@
 -- `clauses::may_follow` meets its contract: test by test. Assumes nothing.
-use mathlib.Core.Path.{sym, ◌∙◌, subst}
+use mathlib.Core.Path.{sym, ◌∙◌}
 use Rattle.words.proofs.WordLaws.{not_yes, not_no}
-use Rattle.clauses.specs.Numbers.{NumbersThere}
 use Rattle.clauses.proofs.FollowLaws.{follow_other, follow-types, follow-numbers, follow-covered}
 use Rattle.clauses.proofs.follows.may_follow.Goals as goal
 
@@ -13,9 +12,6 @@ returns-then-c-d c = follow-types c.args.text.now c.args.c c.args.d ((sym c.name
 
 pub returns-then-c-d-2 : goal.returns-then-c-d-2
 returns-then-c-d-2 c = follow-numbers c.args.text.now c.args.c c.args.d ((sym c.namesake.ensures ∙ not_no _ c.if-not-namesake.false-raw)) c.if-c-d.false c.if-c-d-2.true
-
-pub cover_all-requires : goal.cover_all-requires
-cover_all-requires c = (c.requires.0.numbers, subst (NumbersThere c.args.text.now c.args.d.numbered) (sym c.if-c-d-2.false) c.requires.1.numbers)
 
 pub returns : goal.returns
 returns c = follow-covered c.args.text.now c.args.c c.args.d ((sym c.namesake.ensures ∙ not_no _ c.if-not-namesake.false-raw)) c.if-c-d.false c.if-c-d-2.false c.cover_all.result c.cover_all.ensures

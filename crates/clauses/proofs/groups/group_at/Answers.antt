@@ -7,9 +7,6 @@ use Rattle.words.proofs.WordLaws.{not_yes, not_no}
 use Rattle.clauses.proofs.GroupLaws.{group_none, group_on, group_first, group-word, group-turn, group-cut, group-done}
 use Rattle.clauses.proofs.groups.group_at.Goals as goal
 
-pub word_at-w-requires : goal.word_at-w-requires
-word_at-w-requires c = c.requires.0
-
 pub returns-then-w-opens : goal.returns-then-w-opens
 returns-then-w-opens c = group_none c.args.text.now c.args.start c.args.opens (said_word c.word_at-w.result) c.word_at-w.ensures c.requires.0 c.if-w-opens.true
 
@@ -18,9 +15,6 @@ word_at-v-requires c = (group_on c.args.text.now c.args.start c.args.opens (said
 
 pub loop-at-init : goal.loop-at-init
 loop-at-init c = group_first c.args.text.now c.args.start c.args.opens (said_word c.word_at-w.result) c.word_at-w.ensures c.if-w-opens.false c.requires.1 (said_word c.word_at-v.result) c.word_at-v.ensures
-
-pub leaves-requires : goal.leaves-requires
-leaves-requires c = tt
 
 pub counted-count-requires : goal.counted-count-requires
 counted-count-requires c = omega (arith, (group-word c.args.text.now c.args.start c.args.opens c.loop-at.count c.loop-at.at (said_word c.loop-at.v) c.loop-at.invariant ((sym c.leaves.ensures ∙ not_yes _ c.loop-at-test.true-raw))).past, c.loop-at.invariant.low)

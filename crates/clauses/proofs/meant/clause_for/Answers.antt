@@ -5,23 +5,12 @@ use Rattle.clauses.specs.declared.rows.Row.{Row}
 use Rattle.clauses.specs.Cells.{CellsThere}
 use Rattle.clauses.specs.Follows.{RowThere}
 use Rattle.clauses.specs.Meant.{row_meant}
-use Rattle.clauses.proofs.MeantLaws.{seeking_none, seeking-found, seeking-more, seeking_key, seeking-all}
+use Rattle.clauses.proofs.MeantLaws.{seeking_none, seeking-found, seeking-more, seeking_key}
 use Rattle.clauses.proofs.meant.clause_for.Goals as goal
-
-pub key_of-key-requires : goal.key_of-key-requires
-key_of-key-requires c = c.requires.0.name
-
-pub key_from-k-requires : goal.key_from-k-requires
-key_from-k-requires c =
-    (omega arith, (omega (arith, c.requires.0.there.few, c.requires.1), c.requires.0.there.room))
 
 pub loop-k-init : goal.loop-k-init
 loop-k-init c =
     seeking_key c.args.text.now c.args.work.now c.args.q c.args.seen 0 c.key_from-k.result c.key_of-key.result c.requires.0.there c.requires.1 c.key_of-key.ensures c.key_from-k.ensures (seeking_none c.args.text.now c.args.work.now c.args.q c.args.seen)
-
-pub row_at-r-requires : goal.row_at-r-requires
-row_at-r-requires c =
-    (omega (arith, c.loop-k-test.true, c.requires.0.there.few, c.requires.1), c.requires.0.there.room)
 
 pub meant-requires : goal.meant-requires
 meant-requires c =
@@ -34,19 +23,7 @@ returns-then-meant c =
     let l = c.loop-k in
     seeking-found a.text.now a.work.now a.q a.seen l.k l.invariant c.loop-k-test.true (ap (λ (r : Row). row_meant a.text.now a.work.now a.q r) (sym c.row_at-r.ensures) ∙ sym c.meant.ensures ∙ c.if-meant.true)
 
-pub key_from-k-requires-in-loop-k : goal.key_from-k-requires-in-loop-k
-key_from-k-requires-in-loop-k c =
-    (omega (arith, c.loop-k-test.true), (omega (arith, c.requires.0.there.few, c.requires.1), c.requires.0.there.room))
-
-pub loop-k-smaller : goal.loop-k-smaller
-loop-k-smaller c = omega (arith, c.loop-k-test.true, c.key_from-k-in-loop-k.ensures.least)
-
 pub loop-k-preserved : goal.loop-k-preserved
 loop-k-preserved c =
     let l = c.loop-k in
     seeking_key c.args.text.now c.args.work.now c.args.q c.args.seen _ c.key_from-k-in-loop-k.result c.key_of-key.result c.requires.0.there c.requires.1 c.key_of-key.ensures c.key_from-k-in-loop-k.ensures (seeking-more c.args.text.now c.args.work.now c.args.q c.args.seen l.k l.invariant c.loop-k-test.true (ap (λ (r : Row). row_meant c.args.text.now c.args.work.now c.args.q r) (sym c.row_at-r.ensures) ∙ sym c.meant.ensures ∙ c.if-meant.false))
-
-pub returns : goal.returns
-returns c =
-    let a = c.args in
-    seeking-all a.text.now a.work.now a.q a.seen c.loop-k.k c.loop-k.invariant c.loop-k-test.false

@@ -1,13 +1,9 @@
 -- `clauses::fit_all` meets its contract. The invariant: what is left of the numbers and the values decides.
 -- Assumes nothing.
 use mathlib.Core.Path.{sym, ◌∙◌}
-use native.Mathlib.Omega.{arith}
 use Rattle.words.proofs.WordLaws.{not_yes, not_no}
 use Rattle.clauses.proofs.MeantLaws.{on_none, on-there, on-no, on-more, on_all}
 use Rattle.clauses.proofs.meant.fit_all.Goals as goal
-
-pub first_at-p-requires : goal.first_at-p-requires
-first_at-p-requires c = c.requires.0.lexed
 
 pub loop-i-init : goal.loop-i-init
 loop-i-init c =
@@ -17,9 +13,6 @@ pub number_past-k-requires : goal.number_past-k-requires
 number_past-k-requires c =
     let l = c.loop-i in
     on-there c.args.text.now c.args.work.now c.args.at c.args.n c.args.first l.i l.p l.invariant c.loop-i-test.true
-
-pub value_of-v-requires : goal.value_of-v-requires
-value_of-v-requires c = (omega (arith, c.requires.1.0), c.requires.1.1)
 
 pub returns-then-not-fits : goal.returns-then-not-fits
 returns-then-not-fits c =

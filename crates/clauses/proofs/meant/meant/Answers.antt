@@ -1,12 +1,8 @@
 -- `clauses::meant` meets its contract: test by test. Assumes nothing.
 use mathlib.Core.Path.{sym, ◌∙◌}
-use native.Mathlib.Omega.{arith}
 use Rattle.words.proofs.WordLaws.{not_yes, not_no}
 use Rattle.clauses.proofs.MeantLaws.{meant-other, meant-types, meant-numbers, meant-fits}
 use Rattle.clauses.proofs.meant.meant.Goals as goal
-
-pub namesake-requires : goal.namesake-requires
-namesake-requires c = (c.requires.1.0.inside, c.requires.0.name)
 
 pub returns-then-not-namesake : goal.returns-then-not-namesake
 returns-then-not-namesake c = meant-other c.args.text.now c.args.work.now c.args.q c.args.r (sym c.namesake.ensures ∙ not_yes _ c.if-not-namesake.true-raw)
@@ -16,10 +12,6 @@ returns-then-r-q c = meant-types c.args.text.now c.args.work.now c.args.q c.args
 
 pub returns-then-r-q-2 : goal.returns-then-r-q-2
 returns-then-r-q-2 c = meant-numbers c.args.text.now c.args.work.now c.args.q c.args.r ((sym c.namesake.ensures ∙ not_no _ c.if-not-namesake.false-raw)) c.if-r-q.false c.if-r-q-2.true
-
-pub numbers_fit-requires : goal.numbers_fit-requires
-numbers_fit-requires c =
-    (c.requires.1.1.1, (c.requires.1.1.0, (omega (arith, c.requires.0.entries, c.if-r-q-2.false), c.requires.0.there.room)))
 
 pub returns : goal.returns
 returns c =

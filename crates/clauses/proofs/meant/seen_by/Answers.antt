@@ -1,12 +1,8 @@
 -- `clauses::seen_by` meets its contract. Assumes nothing.
 use mathlib.Core.Path.{sym, subst}
-use native.Mathlib.Omega.{arith}
 use Rattle.clauses.specs.Follows.{RowThere}
 use Rattle.clauses.proofs.MeantLaws.{seen_above, seen_upto}
 use Rattle.clauses.proofs.meant.seen_by.Goals as goal
-
-pub row_at-c-requires : goal.row_at-c-requires
-row_at-c-requires c = (omega (arith, c.requires.0.few), c.requires.0.room)
 
 pub returns-then-c-eq0 : goal.returns-then-c-eq0
 returns-then-c-eq0 c = seen_above c.args.text.now c.args.work.now c.args.k c.row_at-c.result c.row_at-c.ensures c.if-c-eq0.true

@@ -9,21 +9,10 @@ use Rattle.clauses.specs.Follows.{row_namesake}
 use Rattle.clauses.proofs.MeantLaws.{down_none, down-found, down-more, down_key, down-all}
 use Rattle.clauses.proofs.meant.up_to.Goals as goal
 
-pub row_count-n-requires : goal.row_count-n-requires
-row_count-n-requires c = omega (arith, c.requires.0.room)
-
-pub key_below-k-requires : goal.key_below-k-requires
-key_below-k-requires c =
-    (omega (arith, c.row_count-n.ensures, c.requires.0.few), c.requires.0.room)
-
 pub loop-k-init : goal.loop-k-init
 loop-k-init c =
     let n = c.row_count-n in
     down_key c.args.text.now c.args.work.now c.args.sort c.args.at c.args.otherwise n.result c.key_below-k.result c.args.key c.requires.0 c.requires.1.1 c.key_below-k.ensures (down_none c.args.text.now c.args.work.now c.args.sort c.args.at _ c.args.otherwise n.result n.ensures)
-
-pub row_at-r-requires : goal.row_at-r-requires
-row_at-r-requires c =
-    (omega (arith, c.loop-k-test.true, c.loop-k.invariant.most, c.requires.0.few), c.requires.0.room)
 
 pub namesake-requires : goal.namesake-requires
 namesake-requires c =
@@ -35,13 +24,6 @@ returns-then-namesake c =
     let a = c.args in
     let l = c.loop-k in
     down-found a.text.now a.work.now a.sort a.at _ a.otherwise l.k l.invariant c.loop-k-test.true (ap (λ (r : Row). row_namesake a.text.now r a.sort a.at) (sym c.row_at-r.ensures) ∙ sym c.namesake.ensures ∙ c.if-namesake.true)
-
-pub key_below-k-requires-in-loop-k : goal.key_below-k-requires-in-loop-k
-key_below-k-requires-in-loop-k c =
-    (omega (arith, c.loop-k.invariant.most, c.requires.0.few), c.requires.0.room)
-
-pub loop-k-smaller : goal.loop-k-smaller
-loop-k-smaller c = let h = c.loop-k-test.true in omega (arith, h, c.key_below-k-in-loop-k.ensures.most)
 
 pub loop-k-preserved : goal.loop-k-preserved
 loop-k-preserved c =

@@ -7,9 +7,6 @@ use Rattle.clauses.specs.Numbers.{NumberThere, NumberRead}
 use Rattle.clauses.proofs.NumberLaws.{behind_on}
 use Rattle.clauses.proofs.numbers.number_behind.Goals as goal
 
-pub word_at-w-requires : goal.word_at-w-requires
-word_at-w-requires c = c.requires.0
-
 pub number_at-requires : goal.number_at-requires
 number_at-requires c = (((behind_on c.args.text.now c.args.at (said_word c.word_at-w.result) c.word_at-w.ensures c.requires.1)).lexed, subst NumberThere ((behind_on c.args.text.now c.args.at (said_word c.word_at-w.result) c.word_at-w.ensures c.requires.1)).rest c.requires.1)
 

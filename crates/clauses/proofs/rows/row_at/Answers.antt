@@ -5,4 +5,4 @@ use Rattle.clauses.proofs.RowLaws.{row-parts}
 use Rattle.clauses.proofs.rows.row_at.Goals as goal
 
 pub returns : goal.returns
-returns c = row-parts (row_in c.args.work.now c.args.k) _ _ _ _ _ _ _ _ _ c.wide.ensures c.wide-2.ensures c.wide-3.ensures c.wide-4.ensures c.wide-5.ensures refl c.wide-6.ensures c.wide-7.ensures c.wide-8.ensures
+returns c = row-parts (row_in c.args.work.now c.args.k) _ _ _ _ _ _ _ _ _ c.from.ensures c.from-2.ensures c.from-3.ensures c.from-4.ensures c.from-5.ensures refl c.from-6.ensures c.from-7.ensures c.from-8.ensures

@@ -4,25 +4,13 @@ use Rattle.words.specs.Next.{said_word}
 use Rattle.clauses.proofs.HeadLaws.{name-first, name-onward, place_inside, row_read}
 use Rattle.clauses.proofs.rows.row_of.Goals as goal
 
-pub word_at-w-requires : goal.word_at-w-requires
-word_at-w-requires c = c.requires.lexed
-
 pub group_at-ts-requires : goal.group_at-ts-requires
 group_at-ts-requires c = ((name-onward c.args.text.now c.args.at (said_word c.word_at-w.result) c.word_at-w.ensures (name-first c.args.text.now c.args.at (said_word c.word_at-w.result) c.word_at-w.ensures c.args.sort c.args.end c.requires)).lexed, omega arith)
-
-pub group_at-ks-requires : goal.group_at-ks-requires
-group_at-ks-requires c = (c.group_at-ts.ensures.lexed, omega arith)
-
-pub word_at-e-requires : goal.word_at-e-requires
-word_at-e-requires c = c.group_at-ks.ensures.lexed
 
 pub key_of-key-requires : goal.key_of-key-requires
 key_of-key-requires c =
     let w = c.word_at-w in
     omega (arith, place_inside c.args.text.now c.args.at (said_word w.result) w.ensures (name-first c.args.text.now c.args.at (said_word w.result) w.ensures c.args.sort c.args.end c.requires))
-
-pub start_of-behind-requires : goal.start_of-behind-requires
-start_of-behind-requires c = c.requires.past
 
 pub returns : goal.returns
 returns c =

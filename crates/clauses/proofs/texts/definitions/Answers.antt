@@ -5,9 +5,6 @@ use Rattle.words.specs.Next.{said_word}
 use Rattle.clauses.proofs.ItemLaws.{passed, defining_first, defining_held, defining_done, defining-bad, defining-more}
 use Rattle.clauses.proofs.texts.definitions.Goals as goal
 
-pub word_at-w-requires : goal.word_at-w-requires
-word_at-w-requires c = c.requires.0
-
 pub loop-work-init : goal.loop-work-init
 loop-work-init c = defining_first c.args.text.now c.args.work.now c.args.start (said_word c.word_at-w.result) c.requires.0 c.word_at-w.ensures
 
@@ -16,12 +13,6 @@ item-requires c = (c.loop-work.invariant.lexed, defining_held c.args.text.now c.
 
 pub returns-in_err-at : goal.returns-in_err-at
 returns-in_err-at c = let same = passed c.from_residual.result c.from_residual.ensures.1 in rw same (defining-bad c.args.text.now c.args.work.now c.args.start c.requires.1 c.loop-work.work c.loop-work.at (said_word c.loop-work.w) c.loop-work.invariant (sym c.defines.ensures ∙ c.loop-work-test.true) _ c.in_err-at.field-0.0 c.in_err-at.ensures)
-
-pub word_at-w-requires-in-loop-work : goal.word_at-w-requires-in-loop-work
-word_at-w-requires-in-loop-work c = c.in_ok-at.ensures.says.lexed
-
-pub loop-work-smaller : goal.loop-work-smaller
-loop-work-smaller c = c.in_ok-at.ensures.says.fewer
 
 pub loop-work-preserved : goal.loop-work-preserved
 loop-work-preserved c = defining-more c.args.text.now c.args.work.now c.args.start c.requires.1 c.loop-work.work c.loop-work.at (said_word c.loop-work.w) c.loop-work.invariant (sym c.defines.ensures ∙ c.loop-work-test.true) _ c.in_ok-at.at c.in_ok-at.ensures (said_word c.word_at-w-in-loop-work.result) c.word_at-w-in-loop-work.ensures

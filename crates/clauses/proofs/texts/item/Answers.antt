@@ -4,9 +4,6 @@ use Rattle.clauses.proofs.ItemLaws.{item_line, item_type, item_term, type_onward
 use Rattle.std.proofs.Common.{Ok}
 use Rattle.clauses.proofs.texts.item.Goals as goal
 
-pub word_at-w-requires : goal.word_at-w-requires
-word_at-w-requires c = c.requires.0
-
 pub returns-then-w-eq-TABLE : goal.returns-then-w-eq-TABLE
 returns-then-w-eq-TABLE c = item_line c.args.text.now c.args.at (said_word c.word_at-w.result) c.word_at-w.ensures c.args.work.now c.item_end.result c.if-w-eq-TABLE.true c.item_end.ensures
 

@@ -1,25 +1,16 @@
 -- `clauses::read` meets its contract: the edition, then the items over an empty table. Assumes nothing.
 use mathlib.Core.Path.{ap, ◌∙◌}
-use native.Mathlib.Omega.{arith}
-use lib.ListN.{length-set}
 use Rattle.clauses.specs.Rows.{flag_of}
 use Rattle.clauses.proofs.ItemLaws.{passed}
-use Rattle.clauses.proofs.TextLaws.{length-begun, begun-held, text_edition_bad, text-read}
+use Rattle.clauses.proofs.TextLaws.{begun-held, text_edition_bad, text-read}
 use Rattle.clauses.proofs.texts.read.Goals as goal
 
 pub returns-in_err-e : goal.returns-in_err-e
 returns-in_err-e c = let same = passed c.from_residual.result c.from_residual.ensures.1 in rw same (text_edition_bad c.args.text.now c.in_err-e.field-0.0 c.in_err-e.ensures c.args.work.now)
 
-pub bounds-work-31236 : goal.bounds-work-31236
-bounds-work-31236 c = simp length-set (omega arith)
-
 pub read_items-requires : goal.read_items-requires
 read_items-requires c =
     (c.in_ok-e.ensures.lexed, begun-held c.args.work.now c.flag.result c.requires.1.1 c.args.text.now c.requires.1.0)
-
-pub shape_of-work : goal.shape_of-work
-shape_of-work c =
-    c.read_items.auto.work ∙ length-begun c.args.work.now c.flag.result c.requires.1.1
 
 pub returns : goal.returns
 returns c =

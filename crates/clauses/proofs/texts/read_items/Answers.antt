@@ -1,7 +1,7 @@
 -- `clauses::read_items` meets its contract: the definitions above the first line, then all items that are left. Assumes nothing.
 use Rattle.words.specs.Next.{said_word}
 use Rattle.clauses.proofs.ItemLaws.{passed}
-use Rattle.clauses.proofs.TextLaws.{items_defined_bad, defined-held, items-bad, items-good, items_lexed}
+use Rattle.clauses.proofs.TextLaws.{items_defined_bad, defined-held, items-bad, items-good}
 use Rattle.clauses.proofs.texts.read_items.Goals as goal
 
 pub returns-in_err-d : goal.returns-in_err-d
@@ -12,9 +12,6 @@ all_items-requires c = (c.in_ok-d.ensures.says.lexed, defined-held c.args.text.n
 
 pub returns-in_err-r : goal.returns-in_err-r
 returns-in_err-r c = let same = passed c.from_residual-in_err-r.result c.from_residual-in_err-r.ensures.1 in rw same (items-bad c.args.text.now c.args.start c.args.work.now _ c.in_ok-d.d c.in_ok-d.ensures _ c.in_err-r.field-0.0 c.in_err-r.ensures)
-
-pub word_at-w-requires : goal.word_at-w-requires
-word_at-w-requires c = items_lexed c.args.text.now c.args.start c.args.work.now _ c.in_ok-d.d c.in_ok-d.ensures _ c.in_ok-r.r c.in_ok-r.ensures
 
 pub returns : goal.returns
 returns c =

@@ -8,18 +8,12 @@ use Rattle.words.specs.Next.{said_word}
 use Rattle.words.specs.Lexed.{from}
 use Rattle.clauses.specs.Numbers.{NumberThere}
 use Rattle.clauses.proofs.NumberLaws.{behind_on}
-use Rattle.scopes.proofs.GivenLaws.{Giving, giving_none, giving-known, giving-done, number-next, giving-full, giving-bad, giving-small, giving-more}
+use Rattle.scopes.proofs.GivenLaws.{Giving, giving-known, giving-done, number-next, giving-full, giving-bad, giving-small, giving-more}
 use Rattle.clauses.proofs.ItemLaws.{passed}
 use Rattle.scopes.proofs.arguments.numbers_given.Goals as goal
 
-pub loop-i-init : goal.loop-i-init
-loop-i-init c = giving_none c.args.text.now c.args.work.now c.args.f c.args.start c.args.n c.args.name c.args.top c.requires
-
 pub returns-then-top-i-gt-MOST_ENTRIES : goal.returns-then-top-i-gt-MOST_ENTRIES
 returns-then-top-i-gt-MOST_ENTRIES c = rw c.at.ensures (giving-full c.args.text.now c.args.work.now c.args.f c.args.start c.args.n c.args.name c.args.top c.requires c.loop-i.work c.loop-i.i c.loop-i.p c.loop-i.invariant c.loop-i-test.true c.if-top-i-gt-MOST_ENTRIES.true)
-
-pub word_at-w-requires : goal.word_at-w-requires
-word_at-w-requires c = c.loop-i.invariant.there.lexed
 
 pub value_at-v-requires : goal.value_at-v-requires
 value_at-v-requires c = (((behind_on c.args.text.now c.loop-i.p (said_word c.word_at-w.result) c.word_at-w.ensures (number-next c.args.text.now c.args.work.now c.args.f c.args.start c.args.n c.args.name c.args.top c.requires c.loop-i.work c.loop-i.i c.loop-i.p c.loop-i.invariant c.loop-i-test.true))).lexed, (subst NumberThere ((behind_on c.args.text.now c.loop-i.p (said_word c.word_at-w.result) c.word_at-w.ensures (number-next c.args.text.now c.args.work.now c.args.f c.args.start c.args.n c.args.name c.args.top c.requires c.loop-i.work c.loop-i.i c.loop-i.p c.loop-i.invariant c.loop-i-test.true))).rest (number-next c.args.text.now c.args.work.now c.args.f c.args.start c.args.n c.args.name c.args.top c.requires c.loop-i.work c.loop-i.i c.loop-i.p c.loop-i.invariant c.loop-i-test.true), giving-known c.args.text.now c.args.work.now c.args.f c.args.start c.args.n c.args.name c.args.top c.requires c.loop-i.work c.loop-i.i c.loop-i.p c.loop-i.invariant))

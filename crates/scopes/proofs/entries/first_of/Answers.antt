@@ -1,19 +1,9 @@
 -- `scopes::first_of` meets its contract. The invariant: the entries that are left decide. Assumes nothing.
 use Prim.Native.Nat.{ℕ, ◌≤◌}
 use mathlib.Core.Path.{sym, subst, ◌∙◌}
-use native.Mathlib.Omega.{arith}
 use lib.ListN.{length}
-use Rattle.scopes.proofs.EntryLaws.{first-none, first_found, first_more, first-all}
+use Rattle.scopes.proofs.EntryLaws.{first_found, first_more, first-all}
 use Rattle.scopes.proofs.entries.first_of.Goals as goal
-
-pub long_of-long-requires : goal.long_of-long-requires
-long_of-long-requires c = c.requires.1.1
-
-pub loop-e-init : goal.loop-e-init
-loop-e-init c = first-none c.args.text.now c.args.work.now c.args.name c.args.from c.args.to c.requires.1.0
-
-pub place_of-p-requires : goal.place_of-p-requires
-place_of-p-requires c = (omega (arith, c.requires.0.most), c.requires.0.room)
 
 pub is_name-requires : goal.is_name-requires
 is_name-requires c =

@@ -3,17 +3,8 @@ use Prim.Native.Nat.{ℕ, ◌+◌, ◌-◌, ◌≤◌}
 use mathlib.Core.Path.{◌≡◌, sym, subst, ◌∙◌}
 use native.Mathlib.Omega.{arith}
 use lib.ListN.{length}
-use Rattle.scopes.proofs.EntryLaws.{last_none, last_found, last_more, last-all}
+use Rattle.scopes.proofs.EntryLaws.{last_found, last_more, last-all}
 use Rattle.scopes.proofs.entries.last_of.Goals as goal
-
-pub long_of-long-requires : goal.long_of-long-requires
-long_of-long-requires c = c.requires.1.1
-
-pub loop-e-init : goal.loop-e-init
-loop-e-init c = last_none c.args.text.now c.args.work.now c.args.name c.args.from c.args.to c.requires.1.0
-
-pub place_of-p-requires : goal.place_of-p-requires
-place_of-p-requires c = (omega (arith, c.requires.0.most, c.loop-e.invariant.most), c.requires.0.room)
 
 pub is_name-requires : goal.is_name-requires
 is_name-requires c =

@@ -4,14 +4,8 @@ use mathlib.Core.Path.{sym, subst}
 use mathlib.Core.List.{List}
 use native.Mathlib.Omega.{arith}
 use Rattle.words.specs.Next.{said_word}
-use Rattle.scopes.proofs.NamedLaws.{naming_room, NamingTypes, types-none, types-done, bracket-on, name_inside, types_more}
+use Rattle.scopes.proofs.NamedLaws.{naming_room, NamingTypes, types-done, bracket-on, name_inside, types_more}
 use Rattle.scopes.proofs.named.name_types.Goals as goal
-
-pub loop-i-init : goal.loop-i-init
-loop-i-init c = types-none c.args.text.now c.args.work.now c.args.at c.args.n c.args.first c.requires.0
-
-pub word_at-b-requires : goal.word_at-b-requires
-word_at-b-requires c = c.loop-i.invariant.there.lexed
 
 pub word_at-w-requires : goal.word_at-w-requires
 word_at-w-requires c = (bracket-on c.args.text.now c.args.work.now c.args.at c.args.n c.args.first c.requires.1 c.loop-i.work c.loop-i.i c.loop-i.p c.loop-i.invariant c.loop-i-test.true (said_word c.word_at-b.result) c.word_at-b.ensures).lexed
@@ -24,9 +18,6 @@ bind-requires c = (omega (arith, c.requires.1.few), ((naming_room c.args.text.no
 
 pub loop-i-preserved : goal.loop-i-preserved
 loop-i-preserved c = subst (λ (l : List ℕ). NamingTypes c.args.text.now c.args.work.now c.args.at c.args.n c.args.first l (c.loop-i.i + 1) c.word_at-w.result.end) (sym c.bind.ensures) (types_more c.args.text.now c.args.work.now c.args.at c.args.n c.args.first c.requires.1 c.loop-i.work c.loop-i.i c.loop-i.p c.loop-i.invariant c.loop-i-test.true (said_word c.word_at-b.result) c.word_at-b.ensures (said_word c.word_at-w.result) c.word_at-w.ensures c.value_of-v.result c.value_of-v.ensures.0)
-
-pub shape_of-work : goal.shape_of-work
-shape_of-work c = c.loop-i.invariant.naming.only.same
 
 pub returns : goal.returns
 returns c = types-done c.args.text.now c.args.work.now c.args.at c.args.n c.args.first c.requires.1 c.loop-i.work c.loop-i.i c.loop-i.p c.loop-i.invariant c.loop-i-test.false

@@ -1,10 +1,7 @@
 -- `scopes::open` meets its contract: the names, then the frame. Assumes nothing.
 use native.Mathlib.Omega.{arith}
-use Rattle.scopes.proofs.OpenLaws.{open_rows, open_small, open-types, open-numbers, open-room, open-seen, opened}
+use Rattle.scopes.proofs.OpenLaws.{open_rows, open-types, open-numbers, open-room, open-seen, opened}
 use Rattle.scopes.proofs.opened.open.Goals as goal
-
-pub row_at-c-requires : goal.row_at-c-requires
-row_at-c-requires c = (open_small c.args.text.now c.args.work.now c.args.k c.args.frame c.args.top c.requires, c.requires.places.room)
 
 pub seen_by-seen-requires : goal.seen_by-seen-requires
 seen_by-seen-requires c = open_rows c.args.text.now c.args.work.now c.args.k c.args.frame c.args.top c.requires

@@ -3,4 +3,4 @@ use Rattle.type_walk.proofs.MoveLaws.{side_asked}
 use Rattle.type_walk.proofs.sides.ask_side.Goals as goal
 
 pub returns : goal.returns
-returns c = side_asked _ _ _ _ _ _ _ _ _ _ _ c.requires.0 c.requires.1.0 c.requires.1.1.1.0 c.requires.1.1.1.1 c.flag_of.ensures c.wait.ensures
+returns c = side_asked _ _ _ _ _ _ _ _ _ _ _ _ c.requires.0 c.requires.1.0 c.number.ensures c.flag_of.ensures c.wait.ensures

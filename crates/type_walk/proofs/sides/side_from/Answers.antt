@@ -9,7 +9,7 @@ pub ask_side-requires : goal.ask_side-requires
 ask_side-requires c =
     let v = said_word c.mark_at-w.result in
     let s = mark-stands _ _ v c.mark_at-w.ensures 10 c.if-w-eq-TIMES.true (λ z. omega arith) in
-    (c.requires.0, ((onward _ _ v s 9 c.if-w-eq-TIMES.true).lexed, (place_inside _ _ c.requires.1 v s, (omega arith, omega arith))))
+    (c.requires.0, ((onward _ _ v s 9 c.if-w-eq-TIMES.true).lexed, place_inside _ _ c.requires.1 v s))
 
 pub returns-then-w-eq-TIMES : goal.returns-then-w-eq-TIMES
 returns-then-w-eq-TIMES c = side-times _ _ (said_word c.mark_at-w.result) c.mark_at-w.ensures _ _ _ _ _ c.if-w-eq-TIMES.true c.ask_side.ensures
