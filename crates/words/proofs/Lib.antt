@@ -1,4 +1,5 @@
 pub mod WordLaws
+pub mod PassLaws
 pub mod FoundLaws
 pub mod LexLaws
 pub mod NameLaws

@@ -7,7 +7,7 @@ use native.Mathlib.Omega.{arith}
 use lib.Dec.{eqb, ltb}
 use lib.ListN.{length, get_or, take, drop}
 use lib.Seq.{drop-cons, drop-drop, take-nil}
-use borrow.Author.Tests.{ne_eqb}
+use borrow.Author.Tests.{ne_eqb, eq-eqb, eqb-true}
 use Rattle.laws.proofs.Regions.{drop_past}
 use Rattle.notation_calculus.specs.Words.{same_name, in_name, run}
 use Rattle.words.specs.Next.{goes_on_lem, run_at}
@@ -142,12 +142,12 @@ module _ (text : List ℕ) (a b : ℕ) where
     pub brief-inner : x ≡ true → y ≡ same_name (take n (drop a text)) (take n (drop b text))
     brief-inner e = sym (ap (λ (c : Bool). c && y) e) ∙ by_bytes
 
--- the first k bytes of both stretches as one number each
-module _ (text : List ℕ) (a b n k : ℕ) (inside : BothInside text a b n) (fewer : k ≤ n) (small : Small text) (i j : ℕ) (first : i ≡ key_of (take k (drop a text))) (second : j ≡ key_of (take k (drop b text))) where
-  abbrev later : Bool
-  later = same_name (take (n - k) (drop (a + k) text)) (take (n - k) (drop (b + k) text))
+-- the first k bytes of both stretches, and what is left
+module _ (text : List ℕ) (a b n k : ℕ) (fewer : k ≤ n) where
+  abbrev behind_first : Bool
+  behind_first = same_name (take (n - k) (drop (a + k) text)) (take (n - k) (drop (b + k) text))
 
-  in_parts : same_name (take n (drop a text)) (take n (drop b text)) ≡ (same_name (take k (drop a text)) (take k (drop b text)) && later)
+  pub in_parts : same_name (take n (drop a text)) (take n (drop b text)) ≡ (same_name (take k (drop a text)) (take k (drop b text)) && behind_first)
   in_parts =
       let e : n ≡ k + (n - k) = omega arith in
       ap (λ (m : ℕ). same_name (take m (drop a text)) (take m (drop b text))) e
@@ -155,11 +155,53 @@ module _ (text : List ℕ) (a b n k : ℕ) (inside : BothInside text a b n) (few
       ∙ ap (λ (s : List ℕ). same_name (take k (drop a text)) (take k (drop b text)) && same_name (take (n - k) s) (take (n - k) (drop k (drop b text)))) (drop-drop k a text)
       ∙ ap (λ (s : List ℕ). same_name (take k (drop a text)) (take k (drop b text)) && same_name (take (n - k) (drop (a + k) text)) (take (n - k) s)) (drop-drop k b text)
 
+-- .. of three parts, the first two told by one answer
+module _ (text : List ℕ) (a b n k m : ℕ) (first : k ≤ m) (second : m ≤ n) where
+  abbrev pub part_of : ℕ → ℕ → Bool
+  part_of at long = same_name (take long (drop (a + at) text)) (take long (drop (b + at) text))
+
+  in_three : same_name (take n (drop a text)) (take n (drop b text)) ≡ ((same_name (take k (drop a text)) (take k (drop b text)) && part_of k (m - k)) && part_of m (n - m))
+  in_three = in_parts text a b n m second ∙ ap (λ (x : Bool). x && part_of m (n - m)) (in_parts text a b m k first)
+
+  module _ (x v : Bool) (is : x ≡ same_name (take k (drop a text)) (take k (drop b text))) where
+    abbrev pub Told : Type 0
+    Told = v ≡ (x && part_of k (m - k))
+
+    pub told_on : x ≡ true → v ≡ part_of k (m - k) → Told
+    told_on e f = f ∙ sym (ap (λ (y : Bool). y && part_of k (m - k)) e)
+
+    pub told_off : x ≡ false → v ≡ x → Told
+    told_off e f = f ∙ e ∙ sym (ap (λ (y : Bool). y && part_of k (m - k)) e)
+
+    by_three : Told → same_name (take n (drop a text)) (take n (drop b text)) ≡ (v && part_of m (n - m))
+    by_three told = in_three ∙ ap (λ (y : Bool). (y && part_of k (m - k)) && part_of m (n - m)) (sym is) ∙ ap (λ (y : Bool). y && part_of m (n - m)) (sym told)
+
+    pub three_on : Told → v ≡ true → part_of m (n - m) ≡ same_name (take n (drop a text)) (take n (drop b text))
+    three_on told e = sym (by_three told ∙ ap (λ (y : Bool). y && part_of m (n - m)) e)
+
+    pub three_off : Told → v ≡ false → v ≡ same_name (take n (drop a text)) (take n (drop b text))
+    three_off told e = e ∙ sym (by_three told ∙ ap (λ (y : Bool). y && part_of m (n - m)) e)
+
+-- the first k bytes of both stretches as one number each
+module _ (text : List ℕ) (a b n k : ℕ) (inside : BothInside text a b n) (fewer : k ≤ n) (small : Small text) (i j : ℕ) (first : i ≡ key_of (take k (drop a text))) (second : j ≡ key_of (take k (drop b text))) where
   pub stretch-differ : ¬ (i ≡ j) → false ≡ same_name (take n (drop a text)) (take n (drop b text))
-  stretch-differ h = sym (in_parts ∙ ap (λ (x : Bool). x && later) (keys_differ text a b k i j first second h))
+  stretch-differ h = sym (in_parts text a b n k fewer ∙ ap (λ (x : Bool). x && behind_first text a b n k fewer) (keys_differ text a b k i j first second h))
 
   pub stretch_on : i ≡ j → same_name (take n (drop a text)) (take n (drop b text)) ≡ same_name (take (n - k) (drop (a + k) text)) (take (n - k) (drop (b + k) text))
-  stretch_on h = in_parts ∙ ap (λ (x : Bool). x && later) (keys_same text a b k i j (omega (arith, inside.first)) (omega (arith, inside.second)) small first second h)
+  stretch_on h = in_parts text a b n k fewer ∙ ap (λ (x : Bool). x && behind_first text a b n k fewer) (keys_same text a b k i j (omega (arith, inside.first)) (omega (arith, inside.second)) small first second h)
+
+  -- all the bytes
+  pub keys_tell : n ≡ k → eqb i j ≡ same_name (take n (drop a text)) (take n (drop b text))
+  keys_tell e = by (eqb i j) refl ∙ ap (λ (m : ℕ). same_name (take m (drop a text)) (take m (drop b text))) (sym e)
+    where
+      by : (x : Bool) → eqb i j ≡ x → x ≡ same_name (take k (drop a text)) (take k (drop b text))
+      by true f = sym (keys_same text a b k i j (omega (arith, inside.first)) (omega (arith, inside.second)) small first second (eqb-true i j f))
+      by false f =
+          sym
+          (keys_differ text a b k i j first second λ z.
+          let x : ◌≡◌ {A = Bool} true false = sym (eq-eqb i j z) ∙ f in
+          let y : ◌≡◌ {A = ℕ} 0 1 = cc in
+          absurd (omega arith))
 
 -- ---- after i bytes
 

@@ -4,7 +4,7 @@
 ghost use Rattle.std.specs.Prelude.{◌≡◌, true, false, ◌&&◌, ◌||◌, ◌+◌, ◌*◌, ◌-◌, ◌≤◌, ◌<◌, eqb, length, get_or, take, drop};
 ghost use Rattle.calculus.specs.Answer.{good};
 ghost use Rattle.notation_calculus.specs.Words.{same_name, between, blank, ends_line, digit, letter, in_name, first, gap, run, capped, number_word, sign_at, signs, word_at};
-ghost use Rattle.words.specs.Steps.{CommentTo, StepTo};
+ghost use Rattle.words.specs.Steps.{PassedTo, CommentTo, StepTo};
 ghost use Rattle.words.specs.Classes.{ClassIs, SignCode, NotListed, NoSingle, PlainLetter};
 ghost use Rattle.words.specs.Next.{goes_on_lem, run_at, found_at, named_at, next_of, said_word, told};
 ghost use Rattle.words.specs.Digits.{DigitsAt};
@@ -87,17 +87,25 @@ fn in_name(c: u8) -> bool
     either(between(65, 90, c), c == 95)
 }
 
+// Behind the bytes from an offset on that pass a test.
+fn passed_end<F: Fn(u8) -> bool>(text: &[u8], from: usize, passes: F) -> usize
+    requires { (from ≤ length text.now) × F.IsAlwaysCallable passes }
+    ensures { PassedTo (F.post passes) text.now from result }
+{
+    for at in from..text.len() {
+        if !passes(text[at]) {
+            return at;
+        }
+    }
+    text.len()
+}
+
 // Where a run of letters and digits ends.
 pub fn run_end(text: &[u8], from: usize) -> usize
     requires { from ≤ length text.now }
     ensures { result ≡ from + run (drop from text.now) }
 {
-    for at in from..text.len() {
-        if !in_name(text[at]) {
-            return at;
-        }
-    }
-    text.len()
+    passed_end(text, from, in_name)
 }
 
 // Behind the blanks at an offset.
@@ -105,12 +113,7 @@ fn blanks_end(text: &[u8], from: usize) -> usize
     requires { from ≤ length text.now }
     ensures { (from ≤ result) × ((result ≤ length text.now) × (result + gap false (drop result text.now) ≡ from + gap false (drop from text.now))) }
 {
-    for at in from..text.len() {
-        if !blank(text[at]) {
-            return at;
-        }
-    }
-    text.len()
+    passed_end(text, from, blank)
 }
 
 // Two dashes stand here, which begin a comment.
@@ -333,7 +336,7 @@ fn sign_at(text: &[u8], start: usize) -> Word
     }
 }
 
-// A sign of one byte.
+// A sign of one byte, by its code: `SignCode` says of it what `token_code` does.
 fn single(kind: u8, start: usize) -> Word
     requires { start < 18446744073709551615 }
     ensures { said_word result ≡ record { code = kind; value = 0; place = start; end = start + 1 } }
@@ -407,6 +410,7 @@ pub fn word_at(text: &[u8], at: usize) -> Word
 }
 
 // The code of a sign that is told by its byte, without a call: ( ) + , or a dot; 0 for any other byte.
+// From a byte to a number by a table, and no conversion of a type: `SignCode` speaks of these numbers.
 fn sign_code(c: u8) -> u8
     ensures { SignCode c result }
 {
@@ -445,7 +449,7 @@ fn goes_on(text: &[u8], at: usize) -> bool
     in_name(text[at])
 }
 
-// Why a word is refused, by its code.
+// Why a word is refused, by its code, a number as in `Word`: `reason_of` and `Lexed` compare it.
 fn reason(kind: u8) -> Reason
     ensures { result ≡ reason_of kind }
 {

@@ -8,43 +8,29 @@ ghost use Rattle.words.specs.Stretches.{BothInside};
 use crate::spelling::{key2, key4, key8};
 use crate::{both, goes_on, in_name, run_end};
 
-// One byte, or none.
-fn one_same(text: &[u8], a: usize, b: usize, n: usize) -> bool
-    requires { (BothInside text.now a b n) × (n < 2) }
+// None, one, two or four bytes, at once.
+fn part_same(text: &[u8], a: usize, b: usize, n: usize) -> bool
+    requires { (BothInside text.now a b n) × ((n ≤ 4) × ¬ (n ≡ 3)) }
     ensures { result ≡ same_name (take n (drop a text.now)) (take n (drop b text.now)) }
 {
-    if n == 0 {
-        return true;
+    match n {
+        0 => true,
+        1 => text[a] == text[b],
+        2 => key2(text, a) == key2(text, b),
+        _ => key4(text, a) == key4(text, b),
     }
-    text[a] == text[b]
 }
 
-// Fewer than four.
-fn few_same(text: &[u8], a: usize, b: usize, n: usize) -> bool
-    requires { (BothInside text.now a b n) × (n < 4) }
-    ensures { result ≡ same_name (take n (drop a text.now)) (take n (drop b text.now)) }
-{
-    if n < 2 {
-        return one_same(text, a, b, n);
-    }
-    if key2(text, a) != key2(text, b) {
-        return false;
-    }
-    one_same(text, a + 2, b + 2, n - 2)
-}
-
-// Fewer than eight.
+// Fewer than eight: four, if there are as many, then two, then one.
 fn rest_same(text: &[u8], a: usize, b: usize, n: usize) -> bool
     requires { (BothInside text.now a b n) × (n < 8) }
     ensures { result ≡ same_name (take n (drop a text.now)) (take n (drop b text.now)) }
 {
-    if n < 4 {
-        return few_same(text, a, b, n);
-    }
-    if key4(text, a) != key4(text, b) {
-        return false;
-    }
-    few_same(text, a + 4, b + 4, n - 4)
+    let fours = n / 4 * 4;
+    let twos = n / 2 * 2;
+    part_same(text, a, b, fours)
+        && part_same(text, a + fours, b + fours, twos - fours)
+        && part_same(text, a + twos, b + twos, n - twos)
 }
 
 // The n bytes at a place are those at another.

@@ -6,17 +6,12 @@ ghost use Rattle.words.specs.Keys.{key_of};
 ghost use Rattle.words.specs.Tables.{said_row, row_of, two_signs, three_signs};
 
 // A row: its token's code and value, and the spelling's length; 0 where no row fits.
+// The code is a number, as in `Word`: `row_of` gives it by `token_code`.
 #[derive(Clone, Copy)]
 pub struct Row {
     pub kind: u8,
     pub value: u8,
     pub long: usize,
-}
-
-fn wide(x: u8) -> usize
-    ensures { result ≡ x }
-{
-    x as usize
 }
 
 fn as_row(kind: u8, value: u8, long: usize) -> Row
@@ -31,126 +26,91 @@ pub fn key2(text: &[u8], at: usize) -> usize
     requires { at + 2 ≤ length text.now }
     ensures { (result ≡ key_of (take 2 (drop at text.now))) × (result < 65536) }
 {
-    wide(text[at]) * 256 + wide(text[at + 1])
+    usize::from(text[at]) * 256 + usize::from(text[at + 1])
 }
 
 fn key3(text: &[u8], at: usize) -> usize
     requires { at + 3 ≤ length text.now }
     ensures { (result ≡ key_of (take 3 (drop at text.now))) × (result < 16777216) }
 {
-    key2(text, at) * 256 + wide(text[at + 2])
+    key2(text, at) * 256 + usize::from(text[at + 2])
 }
 
 pub fn key4(text: &[u8], at: usize) -> usize
     requires { at + 4 ≤ length text.now }
     ensures { (result ≡ key_of (take 4 (drop at text.now))) × (result < 4294967296) }
 {
-    key3(text, at) * 256 + wide(text[at + 3])
+    key3(text, at) * 256 + usize::from(text[at + 3])
 }
 
 fn key5(text: &[u8], at: usize) -> usize
     requires { at + 5 ≤ length text.now }
     ensures { (result ≡ key_of (take 5 (drop at text.now))) × (result < 1099511627776) }
 {
-    key4(text, at) * 256 + wide(text[at + 4])
+    key4(text, at) * 256 + usize::from(text[at + 4])
 }
 
 fn key6(text: &[u8], at: usize) -> usize
     requires { at + 6 ≤ length text.now }
     ensures { (result ≡ key_of (take 6 (drop at text.now))) × (result < 281474976710656) }
 {
-    key5(text, at) * 256 + wide(text[at + 5])
+    key5(text, at) * 256 + usize::from(text[at + 5])
 }
 
 fn key7(text: &[u8], at: usize) -> usize
     requires { at + 7 ≤ length text.now }
     ensures { (result ≡ key_of (take 7 (drop at text.now))) × (result < 72057594037927936) }
 {
-    key6(text, at) * 256 + wide(text[at + 6])
+    key6(text, at) * 256 + usize::from(text[at + 6])
 }
 
 pub fn key8(text: &[u8], at: usize) -> usize
     requires { at + 8 ≤ length text.now }
     ensures { result ≡ key_of (take 8 (drop at text.now)) }
 {
-    key7(text, at) * 256 + wide(text[at + 7])
+    key7(text, at) * 256 + usize::from(text[at + 7])
 }
 
-// in, or
-fn two_row(text: &[u8], at: usize) -> Row
-    requires { at + 2 ≤ length text.now }
-    ensures { said_row result ≡ row_of true 2 (drop at text.now) reserved }
-{
-    match key2(text, at) {
-        26990 => as_row(4, 0, 2),
-        28530 => as_row(22, 3, 2),
-        _ => as_row(0, 0, 0),
-    }
-}
-
-// fun, fix, let, reg, and, xor, inv, one
-fn three_row(text: &[u8], at: usize) -> Row
-    requires { at + 3 ≤ length text.now }
-    ensures { said_row result ≡ row_of true 3 (drop at text.now) reserved }
-{
-    match key3(text, at) {
-        6714734 => as_row(1, 0, 3),
-        6711672 => as_row(2, 0, 3),
-        7103860 => as_row(3, 0, 3),
-        7497063 => as_row(22, 1, 3),
-        6385252 => as_row(22, 2, 3),
-        7892850 => as_row(22, 4, 3),
-        6909558 => as_row(22, 5, 3),
-        7302757 => as_row(22, 6, 3),
-        _ => as_row(0, 0, 0),
-    }
-}
-
-// type, zero
-fn four_row(text: &[u8], at: usize) -> Row
-    requires { at + 4 ≤ length text.now }
-    ensures { said_row result ≡ row_of true 4 (drop at text.now) reserved }
-{
-    match key4(text, at) {
-        1954115685 => as_row(5, 0, 4),
-        2053468783 => as_row(22, 0, 4),
-        _ => as_row(0, 0, 0),
-    }
-}
-
-// table
-fn five_row(text: &[u8], at: usize) -> Row
-    requires { at + 5 ≤ length text.now }
-    ensures { said_row result ≡ row_of true 5 (drop at text.now) reserved }
-{
-    match key5(text, at) {
-        499850046565 => as_row(7, 0, 5),
-        _ => as_row(0, 0, 0),
-    }
-}
-
-// edition
-fn seven_row(text: &[u8], at: usize) -> Row
-    requires { at + 7 ≤ length text.now }
-    ensures { said_row result ≡ row_of true 7 (drop at text.now) reserved }
-{
-    match key7(text, at) {
-        28539376735186798 => as_row(6, 0, 7),
-        _ => as_row(0, 0, 0),
-    }
-}
-
-// The reserved word of so many bytes.
+// The reserved word of so many bytes: of each length by the bytes as one number.
 pub fn reserved_row(text: &[u8], at: usize, long: usize) -> Row
     requires { at + long ≤ length text.now }
     ensures { said_row result ≡ row_of true long (drop at text.now) reserved }
 {
     match long {
-        2 => two_row(text, at),
-        3 => three_row(text, at),
-        4 => four_row(text, at),
-        5 => five_row(text, at),
-        7 => seven_row(text, at),
+        // in, or
+        2 => match key2(text, at) {
+            26990 => as_row(4, 0, 2),
+            28530 => as_row(22, 3, 2),
+            _ => as_row(0, 0, 0),
+        },
+        // fun, fix, let, reg, and, xor, inv, one
+        3 => match key3(text, at) {
+            6714734 => as_row(1, 0, 3),
+            6711672 => as_row(2, 0, 3),
+            7103860 => as_row(3, 0, 3),
+            7497063 => as_row(22, 1, 3),
+            6385252 => as_row(22, 2, 3),
+            7892850 => as_row(22, 4, 3),
+            6909558 => as_row(22, 5, 3),
+            7302757 => as_row(22, 6, 3),
+            _ => as_row(0, 0, 0),
+        },
+        // type, zero
+        4 => match key4(text, at) {
+            1954115685 => as_row(5, 0, 4),
+            2053468783 => as_row(22, 0, 4),
+            _ => as_row(0, 0, 0),
+        },
+        // table
+        5 => match key5(text, at) {
+            499850046565 => as_row(7, 0, 5),
+            _ => as_row(0, 0, 0),
+        },
+        // edition
+        7 => match key7(text, at) {
+            28539376735186798 => as_row(6, 0, 7),
+            _ => as_row(0, 0, 0),
+        },
         _ => as_row(0, 0, 0),
     }
 }

@@ -5,10 +5,10 @@ use Rattle.words.proofs.KeyLaws.{key_more}
 use Rattle.words.proofs.spelling.key3.Goals as goal
 
 pub overflow_add-result : goal.overflow_add-result
-overflow_add-result c = record { fits = omega (arith, c.key2.ensures.1, c.wide.ensures, c.type_inv.text (c.args.at + 2)) }
+overflow_add-result c = record { fits = omega (arith, c.key2.ensures.1, c.from.ensures, c.type_inv.text (c.args.at + 2)) }
 
 pub returns : goal.returns
 returns c =
     let a = c.args in
     let k = c.key2 in
-    (key_more a.text.now a.at 2 k.result c.wide.result c.requires k.ensures.0 c.wide.ensures, omega (arith, k.ensures.1, c.wide.ensures, c.type_inv.text (a.at + 2)))
+    (key_more a.text.now a.at 2 k.result c.from.result c.requires k.ensures.0 c.from.ensures, omega (arith, k.ensures.1, c.from.ensures, c.type_inv.text (a.at + 2)))

@@ -1,0 +1,74 @@
+-- Bytes that pass a test, one after the other, and what a run and a gap have of them. Assumes nothing.
+use Prim.Native.Nat.{ℕ, zero, suc, ◌+◌, ◌-◌, ◌≤◌, ◌<◌}
+use mathlib.Core.Path.{◌≡◌, refl, sym, ap, subst}
+use mathlib.Core.Bool.{Bool, true, false}
+use mathlib.Core.List.{List}
+use native.Mathlib.Omega.{arith}
+use lib.Dec.{eqb, leb}
+use lib.ListN.{length, get_or, drop}
+use borrow.Author.Tests.{eqb-true, eqb-false, leb-true, leb-false}
+use Rattle.notation_calculus.specs.Words.{in_name, blank, run, gap}
+use Rattle.words.specs.Steps.{PassedTo}
+use Rattle.words.proofs.WordLaws.{run_on, run-stops, run_past, gap-blank}
+
+-- the byte at an offset is the last of the first n + 1 ones
+last_or : (i at : ℕ) → i < at + 1 → ¬ (i ≡ at) → i < at
+last_or i at h n = omega (arith, h, n)
+
+module _ (says : ℕ → Bool → Type 0) (s : List ℕ) (from at : ℕ) where
+  abbrev pub PassedBelow : Type 0
+  PassedBelow = (i : ℕ) → from ≤ i → i < at → says (get_or s i 0) true
+
+pub one_more : (s : List ℕ) (from at : ℕ) (says : ℕ → Bool → Type 0) → PassedBelow says s from at → says (get_or s at 0) true → PassedBelow says s from (at + 1)
+one_more s from at says below here i h k = by (eqb i at) refl
+  where
+    by : (x : Bool) → eqb i at ≡ x → says (get_or s i 0) true
+    by true e = subst (λ (j : ℕ). says (get_or s j 0) true) (sym (eqb-true i at e)) here
+    by false e = below i h (last_or i at k (eqb-false i at e))
+
+pub at_end : (says : ℕ → Bool → Type 0) (s : List ℕ) (from at : ℕ) → from ≤ length s → length s ≤ at → PassedBelow says s from at → PassedTo says s from (length s)
+at_end says s from at h e below =
+    record {
+      behind = h;
+      inside = omega arith;
+      passed = λ i f k. below i f (omega (arith, k, e));
+      stops = λ k. absurd (omega (arith, k));
+    }
+
+-- ---- runs and gaps
+
+abbrev pub Tells : (ℕ → Bool) → (ℕ → Bool → Type 0) → Type 0
+Tells test says = (c : ℕ) (b : Bool) → says c b → b ≡ test c
+
+-- as many bytes as are left before the end of the stretch
+run_over : (s : List ℕ) (r k at : ℕ) → r ≡ at + k → r ≤ length s → ((i : ℕ) → at ≤ i → i < r → in_name (get_or s i 0) ≡ true) → (r < length s → in_name (get_or s r 0) ≡ false) → r ≡ at + run (drop at s)
+run_over s r zero at e h all stops = by_end (leb (length s) r) refl
+  where
+    here : r ≡ at
+    here = omega (arith, e)
+
+    none : run (drop r s) ≡ 0 → r ≡ at + run (drop at s)
+    none z = let y = ap (λ (j : ℕ). run (drop j s)) here in omega (arith, sym y, z, here)
+
+    by_end : (x : Bool) → leb (length s) r ≡ x → r ≡ at + run (drop at s)
+    by_end true f = none (run_past s r (leb-true (length s) r f))
+    by_end false f = let l = leb-false (length s) r f in none (run-stops s r (omega (arith, l)) (stops (omega (arith, l))))
+run_over s r (suc k) at e h all stops =
+    let on = run_on s at (omega (arith, e, h)) (all at (omega arith) (omega (arith, e))) in
+    let more = run_over s r k (at + 1) (omega (arith, e)) h (λ i f g. all i (omega (arith, f)) g) stops in
+    omega (arith, on, more)
+
+gap_over : (s : List ℕ) (r k at : ℕ) → r ≡ at + k → r ≤ length s → ((i : ℕ) → at ≤ i → i < r → blank (get_or s i 0) ≡ true) → r + gap false (drop r s) ≡ at + gap false (drop at s)
+gap_over s r zero at e h all = let here : r ≡ at = omega (arith, e) in ap (λ (j : ℕ). j + gap false (drop j s)) here
+gap_over s r (suc k) at e h all =
+    let on = gap-blank s at (omega (arith, e, h)) (all at (omega arith) (omega (arith, e))) in
+    let more = gap_over s r k (at + 1) (omega (arith, e)) h (λ i f g. all i (omega (arith, f)) g) in
+    omega (arith, on, more)
+
+pub run_passed : (says : ℕ → Bool → Type 0) (s : List ℕ) (at r : ℕ) → Tells in_name says → PassedTo says s at r → r ≡ at + run (drop at s)
+run_passed says s at r tells p =
+    run_over s r (r - at) at (omega (arith, p.behind)) p.inside (λ i f g. sym (tells (get_or s i 0) true (p.passed i f g))) (λ f. sym (tells (get_or s r 0) false (p.stops f)))
+
+pub gap_passed : (says : ℕ → Bool → Type 0) (s : List ℕ) (at r : ℕ) → Tells blank says → PassedTo says s at r → r + gap false (drop r s) ≡ at + gap false (drop at s)
+gap_passed says s at r tells p =
+    gap_over s r (r - at) at (omega (arith, p.behind)) p.inside (λ i f g. sym (tells (get_or s i 0) true (p.passed i f g)))
