@@ -15,19 +15,13 @@ use Rattle.words.specs.Next.{Said}
 use Rattle.words.specs.Lexed.{from, Lexed, Onward, Stands}
 use Rattle.words.specs.Marks.{Marks}
 use Rattle.grammar.specs.Skips.{opens_group, closes_group, depth_by, stops_by}
-use Rattle.grammar.proofs.EndLaws.{token_is, is_yes, is_no, name_yes, name_no, part_yes, part_no}
-use Rattle.grammar.proofs.StepLaws.{code_is, code_not}
+use Rattle.grammar.proofs.EndLaws.{token_is, is_no, name_no, part_no}
+use Rattle.grammar.proofs.StepLaws.{code_not}
 
 eqb_sym : (a b : ℕ) → eqb a b ≡ eqb b a
 eqb_sym a b = elim (ℕ_discrete a b) [ yes e ↦ eq-eqb a b e ∙ sym (eq-eqb b a (sym e)) | no d ↦ ne_eqb a b d ∙ sym (ne_eqb b a (λ e. d (sym e))) ]
 
 -- ---- the tests that the code makes
-
-pub one_of : (a b c : ℕ) → c ≡ a → true ≡ (eqb a c || eqb b c)
-one_of a b c e = sym (ap (λ (x : Bool). x || eqb b c) (eq-eqb a c (sym e)))
-
-pub other_of : (a b c : ℕ) → ¬ (c ≡ a) → eqb c b ≡ (eqb a c || eqb b c)
-other_of a b c e = eqb_sym c b ∙ sym (ap (λ (x : Bool). x || eqb b c) (ne_eqb a c (λ q. e (sym q))))
 
 module _ (c deep : ℕ) where
   abbrev depth_of : Bool → Bool → ℕ
@@ -204,22 +198,7 @@ module _ (text : List ℕ) (at : ℕ) (w : Said) (s : Stands text at w) where
   atom-of : (r p n : Bool) → is round (from text at) ≡ r → is_part (peek (from text at)).token ≡ p → is_name (peek (from text at)).token ≡ n → begins_atom (from text at) ≡ atom_of r p n
   atom-of r p n e f g = ap (λ (x : Bool). atom_of x (is_part (peek (from text at)).token) (is_name (peek (from text at)).token)) e ∙ ap (λ (x : Bool). atom_of r x (is_name (peek (from text at)).token)) f ∙ ap (atom_of r p) g
 
-  or_true : (a b : Bool) → a ≡ true → (a || b) ≡ true
-  or_true a b e = ap (λ (x : Bool). x || b) e
-
-  pub begins_round : w.code ≡ 11 → true ≡ begins_atom (from text at)
-  begins_round e = sym (atom-of true (is_part (peek (from text at)).token) (is_name (peek (from text at)).token) (is_yes text at w s round e) refl refl)
-
   module _ (d : ¬ (w.code ≡ 11)) where
-    pub begins-part : w.code ≡ 22 → true ≡ begins_atom (from text at)
-    begins-part e = sym (atom-of false true (is_name (peek (from text at)).token) (is_no text at w s round d) (part_yes (peek (from text at)).token (code_is text at w s 22 e)) refl)
-
     module _ (f : ¬ (w.code ≡ 22)) where
-      pub begins-name : w.code ≡ 24 → (b : Bool) → b ≡ is equals (behind_group 0 (from text w.end)) → not b ≡ begins_atom (from text at)
-      begins-name e b h =
-          let n = name_yes (peek (from text at)).token (code_is text at w s 24 e) in
-          let o = s.onward (λ z. omega arith) in
-          ap not (h ∙ ap (λ (us : List Word). is equals (behind_group 0 us)) (sym o.rest) ∙ sym (ap (λ (x : Bool). x && is equals (behind_group 0 (behind (from text at)))) n)) ∙ sym (atom-of false false true (is_no text at w s round d) (part_no (peek (from text at)).token (code_not text at w s 22 f)) n)
-
       pub begins-none : ¬ (w.code ≡ 24) → false ≡ begins_atom (from text at)
       begins-none e = sym (atom-of false false false (is_no text at w s round d) (part_no (peek (from text at)).token (code_not text at w s 22 f)) (name_no (peek (from text at)).token (code_not text at w s 24 e)))

@@ -1,16 +1,13 @@
--- Types by the code of the first word, and one level of a type step by step. Assumes nothing.
+-- One level of a type step by step. Assumes nothing.
 use Prim.Native.Nat.{ℕ, suc, ◌+◌, ◌-◌}
-use mathlib.Core.Path.{◌≡◌, refl, sym, ap, ◌∙◌}
+use mathlib.Core.Path.{◌≡◌, refl, ap, ◌∙◌}
 use mathlib.Core.Bool.{Bool, true, false, cond}
 use mathlib.Core.List.{List}
 use native.Mathlib.Omega.{arith}
-use lib.Dec.{eqb}
 use lib.ListN.{length}
-use borrow.Author.Tests.{eq-eqb, ne_eqb}
-use Rattle.calculus.specs.Answer.{Answer, good, ◌>>=◌, refuse, need}
-use Rattle.notation_calculus.specs.Words.{sign_code, arrow, linear, times, endRound, square, endSquare, curly, endCurly, Token, sign, part, number, name, Word}
-use Rattle.notation_calculus.specs.Grammar.{peek, behind, place, is, expect}
-use Rattle.words.specs.Tables.{token_code, token_value}
+use Rattle.calculus.specs.Answer.{Answer, good, ◌>>=◌}
+use Rattle.notation_calculus.specs.Words.{times, endRound, square, endSquare, curly, endCurly, Word}
+use Rattle.notation_calculus.specs.Grammar.{behind, is}
 use Rattle.words.specs.Next.{Said}
 use Rattle.words.specs.Lexed.{from, Onward, Stands}
 use Rattle.std.proofs.Common.{Ok, Err}
@@ -18,38 +15,10 @@ use Rattle.answers.specs.declared.Refusal.{Refusal as Why}
 use Rattle.answers.specs.declared.Reason.TheVariants.{TextLimit}
 use Rattle.answers.specs.Refusals.{refusal_at}
 use Rattle.grammar.specs.Ends.{End, Ends, type_step}
-use Rattle.grammar.specs.Skips.{Step, expect_code, group_end, number_end, ones_end, numbers_end, use_end, inside_end, type_atom_by, type_atom_end, product_end, arrow_end, times_end}
-use Rattle.grammar.proofs.EndLaws.{sign_not, is_yes, is_no, ends_bad, ends-due, ends_as, ends-stop, ends_then, ends-expect, step_is}
-use Rattle.grammar.proofs.StepLaws.{DueAt, code_is, code_not}
+use Rattle.grammar.specs.Skips.{Step, expect_code, group_end, number_end, numbers_end, use_end, inside_end, type_atom_end, product_end, arrow_end, times_end}
+use Rattle.grammar.proofs.EndLaws.{is_yes, is_no, ends_bad, ends_as, ends-stop, ends_then, ends-expect, step_is}
 use Rattle.grammar.proofs.LoopLaws.{group_none}
 use Rattle.grammar.proofs.SkipLaws.{type_by, type_none}
-
--- ---- by the token
-
-module _ (read : Step) (ws : List Word) where
-  by_name : (t : Token) → token_code t ≡ 24 → type_atom_by read t ws ≡ use_end read (behind ws)
-  by_name (sign t) e = absurd (sign_not t 24 tt e)
-  by_name (part p) e = absurd (omega arith)
-  by_name (number n) e = absurd (omega arith)
-  by_name (name n) e = refl
-
-  by-round : (t : Token) → token_code t ≡ 11 → type_atom_by read t ws ≡ inside_end read (behind ws)
-  by-round (sign t) e = ap (λ (b : Bool). need b 32 (place ws) >>= λ _. inside_end read (behind ws)) (eq-eqb 11 (sign_code t) (sym e))
-  by-round (part p) e = absurd (omega arith)
-  by-round (number n) e = absurd (omega arith)
-  by-round (name n) e = absurd (omega arith)
-
-  by_number : (t : Token) (b : Bool) → token_code t ≡ 23 → eqb (token_value t) 1 ≡ b → type_atom_by read t ws ≡ (need b 32 (place ws) >>= λ _. ones_end (behind ws))
-  by_number (sign t) b e f = absurd (sign_not t 23 tt e)
-  by_number (part p) b e f = absurd (omega arith)
-  by_number (number n) b e f = ap (λ (x : Bool). need x 32 (place ws) >>= λ _. ones_end (behind ws)) f
-  by_number (name n) b e f = absurd (omega arith)
-
-  by-none : (t : Token) → ¬ (token_code t ≡ 24) → ¬ (token_code t ≡ 11) → ¬ (token_code t ≡ 23) → type_atom_by read t ws ≡ refuse 32 (place ws)
-  by-none (sign t) e f g = ap (λ (b : Bool). need b 32 (place ws) >>= λ _. inside_end read (behind ws)) (ne_eqb 11 (sign_code t) (λ q. f (sym q)))
-  by-none (part p) e f g = refl
-  by-none (number n) e f g = absurd (g refl)
-  by-none (name n) e f g = absurd (e refl)
 
 module _ (text : List ℕ) (at : ℕ) (w : Said) (s : Stands text at w) (read : Step) where
   abbrev here : List Word
@@ -58,38 +27,11 @@ module _ (text : List ℕ) (at : ℕ) (w : Said) (s : Stands text at w) (read : 
   on : (n : ℕ) → w.code ≡ suc n → Onward text at w.end
   on n e = s.onward (λ z. omega arith)
 
-  pub atom_name : w.code ≡ 24 → (r : End) → Ends text (length (from text w.end) + 1) (use_end read (from text w.end)) r → Ends text (length here) (type_atom_end read here) r
-  atom_name e r t = ends_as text _ (length here) _ (type_atom_end read here) r (omega (arith, (on 23 e).fewer)) (by_name read here (peek here).token (code_is text at w s 24 e) ∙ ap (use_end read) (on 23 e).rest) t
-
-  pub atom_round : w.code ≡ 11 → (r : End) → Ends text (length (from text w.end)) (inside_end read (from text w.end)) r → Ends text (length here) (type_atom_end read here) r
-  atom_round e r t = ends_as text _ (length here) _ (type_atom_end read here) r (omega (arith, (on 10 e).fewer)) (by-round read here (peek here).token (code_is text at w s 11 e) ∙ ap (inside_end read) (on 10 e).rest) t
-
-  pub atom_one : w.code ≡ 23 → w.value ≡ 1 → (r : End) → Ends text (length (from text w.end) + 1) (ones_end (from text w.end)) r → Ends text (length here) (type_atom_end read here) r
-  atom_one e f r t = ends_as text _ (length here) _ (type_atom_end read here) r (omega (arith, (on 22 e).fewer)) (by_number read here (peek here).token true (code_is text at w s 23 e) (eq-eqb _ 1 (sym s.value ∙ f)) ∙ ap ones_end (on 22 e).rest) t
-
-  pub atom_other : w.code ≡ 23 → ¬ (w.value ≡ 1) → (why : Why) → DueAt why w → Ends text (length here) (type_atom_end read here) (Err why)
-  atom_other e f r d = ends-due text at (length here) w (type_atom_end read here) r s d (by_number read here (peek here).token false (code_is text at w s 23 e) (ne_eqb _ 1 (λ q. f (s.value ∙ q))))
-
-  pub atom_none : ¬ (w.code ≡ 24) → ¬ (w.code ≡ 11) → ¬ (w.code ≡ 23) → (why : Why) → DueAt why w → Ends text (length here) (type_atom_end read here) (Err why)
-  atom_none e f g r d = ends-due text at (length here) w (type_atom_end read here) r s d (by-none read here (peek here).token (code_not text at w s 24 e) (code_not text at w s 11 f) (code_not text at w s 23 g))
-
   product_is : w.code ≡ 10 → product_end read here ≡ read (from text w.end)
   product_is e = ap (λ (b : Bool). cond b (read (behind here)) (good here)) (is_yes text at w s times e) ∙ ap read (on 9 e).rest
 
   product-none : ¬ (w.code ≡ 10) → product_end read here ≡ good here
   product-none e = ap (λ (b : Bool). cond b (read (behind here)) (good here)) (is_no text at w s times e)
-
-  arrow-by : (b c : Bool) → is arrow here ≡ b → is linear here ≡ c → arrow_end read here ≡ cond b (read (behind here)) (cond c (read (behind here)) (good here))
-  arrow-by b c e f = ap (λ (x : Bool). cond x (read (behind here)) (cond (is linear here) (read (behind here)) (good here))) e ∙ ap (λ (x : Bool). cond b (read (behind here)) (cond x (read (behind here)) (good here))) f
-
-  pub arrow_on : w.code ≡ 8 → (r : End) → Ends text (length (from text w.end)) (read (from text w.end)) r → Ends text (length here + 1) (arrow_end read here) r
-  arrow_on e r t = ends_as text _ _ _ (arrow_end read here) r (omega (arith, (on 7 e).fewer)) (arrow-by true (is linear here) (is_yes text at w s arrow e) refl ∙ ap read (on 7 e).rest) t
-
-  pub linear_on : ¬ (w.code ≡ 8) → w.code ≡ 9 → (r : End) → Ends text (length (from text w.end)) (read (from text w.end)) r → Ends text (length here + 1) (arrow_end read here) r
-  linear_on d e r t = ends_as text _ _ _ (arrow_end read here) r (omega (arith, (on 8 e).fewer)) (arrow-by false true (is_no text at w s arrow d) (is_yes text at w s linear e) ∙ ap read (on 8 e).rest) t
-
-  pub arrow_none : ¬ (w.code ≡ 8) → ¬ (w.code ≡ 9) → arrow_end read here ≡ good here
-  arrow_none d e = arrow-by false false (is_no text at w s arrow d) (is_no text at w s linear e)
 
 -- ---- a use, and a type in parentheses
 

@@ -6,28 +6,24 @@ ghost use Rattle.words.specs.Next.{said_word};
 ghost use Rattle.words.specs.Lexed.{from, Lexed, Stands};
 ghost use Rattle.grammar.specs.Skips.{opens_group, closes_group, depth_by, stops_by};
 
+use crate::steps::{CURLY, END_CURLY, END_SQUARE, SQUARE};
 use words::Word;
 
 const ROUND: u8 = 11;
 
 const EQUALS: u8 = 13;
 
+// The code of a word is a number here too (see `words::Word`): `opens_group`, `closes_group`, `depth_by` and `stops_by` compare it.
 fn opens(kind: u8) -> bool
     ensures { result ≡ opens_group kind }
 {
-    if kind == 17 {
-        return true;
-    }
-    kind == 19
+    matches!(kind, SQUARE | CURLY)
 }
 
 fn closes(kind: u8) -> bool
     ensures { result ≡ closes_group kind }
 {
-    if kind == 18 {
-        return true;
-    }
-    kind == 20
+    matches!(kind, END_SQUARE | END_CURLY)
 }
 
 // How many groups are open behind a word that ends at an offset.
@@ -96,14 +92,9 @@ pub fn word_begins(text: &[u8], at: usize, w: Word) -> bool
     requires { Stands text.now at (said_word w) }
     ensures { result ≡ begins_atom (from text.now at) }
 {
-    if w.kind == ROUND {
-        return true;
+    match w.kind {
+        ROUND | words::PART => true,
+        words::NAME => !heads(text, w.end),
+        _ => false,
     }
-    if w.kind == words::PART {
-        return true;
-    }
-    if w.kind == words::NAME {
-        return !heads(text, w.end);
-    }
-    false
 }

@@ -1,4 +1,6 @@
 // Where a type ends.
+// The text, the offset and the levels that are left go through all functions of the grammar as three parameters and no struct: offset and levels are
+// others at each call, so a struct of them would be made anew each time, and written to the stack at each of up to 80 levels.
 ghost use Rattle.std.specs.Prelude.{◌≡◌, true, false, ◌+◌, length};
 ghost use Rattle.notation_calculus.specs.Words.{square, endSquare};
 ghost use Rattle.words.specs.Next.{said_word};
@@ -74,19 +76,12 @@ fn atom_end(text: &[u8], at: usize, more: usize) -> Result<usize, Refusal>
     ensures { Ends text.now (length (from text.now at)) (type_atom_end (type_step more false) (from text.now at)) result }
 {
     let w = words::word_at(text, at);
-    if w.kind == words::NAME {
-        return use_end(text, w.end, more);
+    match w.kind {
+        words::NAME => use_end(text, w.end, more),
+        ROUND => inside_end(text, w.end, more),
+        words::NUMBER if w.value == 1 => steps::ones_end(text, w.end),
+        _ => Err(Reason::OtherWordDue.at(w.start)),
     }
-    if w.kind == ROUND {
-        return inside_end(text, w.end, more);
-    }
-    if w.kind == words::NUMBER {
-        if w.value == 1 {
-            return steps::ones_end(text, w.end);
-        }
-        return Err(Reason::OtherWordDue.at(w.start));
-    }
-    Err(Reason::OtherWordDue.at(w.start))
 }
 
 // By the word at an offset: -> type, -o type, or nothing.
@@ -95,13 +90,10 @@ fn arrow_end(text: &[u8], at: usize, more: usize, w: Word) -> Result<usize, Refu
     requires { (Lexed text.now at) × (Stands text.now at (said_word w)) }
     ensures { Ends text.now (length (from text.now at) + 1) (arrow_end (type_step more false) (from text.now at)) result }
 {
-    if w.kind == ARROW {
-        return type_end(text, w.end, more, false);
+    match w.kind {
+        ARROW | LINEAR => type_end(text, w.end, more, false),
+        _ => Ok(at),
     }
-    if w.kind == LINEAR {
-        return type_end(text, w.end, more, false);
-    }
-    Ok(at)
 }
 
 // Behind the sign of a product: a type, and an arrow where one is read.

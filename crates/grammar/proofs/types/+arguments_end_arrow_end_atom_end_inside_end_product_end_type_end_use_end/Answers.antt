@@ -13,7 +13,7 @@ use Rattle.grammar.proofs.LoopLaws.{loop_bad, loop-stop, loop-turn, group_none, 
 use Rattle.words.specs.Next.{said_word}
 use mathlib.Core.Bool.{false}
 use Rattle.grammar.specs.Ends.{type_step}
-use Rattle.grammar.proofs.TypeLaws.{atom_name, atom_round, atom_one, atom_other, atom_none, arrow_on, linear_on, arrow_none, use_numbers, use_none, use_on, inside_on, type_deep, type-stop, type-times, type-tight, type-loose, times-tight, times-loose}
+use Rattle.grammar.proofs.TypeLaws.{use_numbers, use_none, use_on, inside_on, type_deep, type-stop, type-times, type-tight, type-loose, times-tight, times-loose}
 use Rattle.std.proofs.Common.{Ok, Err}
 use Rattle.std.proofs.Common.{Ok, Err}
 use Rattle.grammar.proofs.types.+arguments_end_arrow_end_atom_end_inside_end_product_end_type_end_use_end.Goals as goal
@@ -51,47 +51,8 @@ arguments_end-loop-c-preserved t c = loop-turn c.args.text.now (list_more (type_
 pub arguments_end-returns-in_err-t-2 : goal.arguments_end-returns-in_err-t-2
 arguments_end-returns-in_err-t-2 t c = ends_passed c.args.text.now _ _ c.from_residual-in_err-t-2.result _ c.from_residual-in_err-t-2.ensures.1 (loop_bad _ _ _ _ _ c.in_err-t-2.field-0.0 (loop-turn c.args.text.now (list_more (type_step c.args.more false)) (λ us. isSign comma us) (λ us. type_step c.args.more false (behind us)) (λ r us. refl) (λ us. expect endSquare us) (group_end square endSquare (type_step c.args.more false) (from c.args.text.now c.args.at)) (length (from c.args.text.now c.args.at)) c.loop-c.t c.loop-c.invariant (is_yes c.args.text.now c.loop-c.t (said_word c.word_at-c.result) c.word_at-c.ensures comma c.if-c-ne-COMMA.false) 0 (Err c.in_err-t-2.field-0.0) (ap (λ (us : List Word). type_step c.args.more false us) (c.word_at-c.ensures.onward (λ z. omega (arith, c.if-c-ne-COMMA.false))).rest ∙ c.in_err-t-2.ensures) (omega arith)))
 
-pub arrow_end-type_end-requires : goal.arrow_end-type_end-requires
-arrow_end-type_end-requires t c = (omega (arith, c.decreases), (c.requires.1.onward (λ z. omega (arith, c.if-w-eq-ARROW.true))).lexed)
-
-pub arrow_end-returns-then-w-eq-ARROW : goal.arrow_end-returns-then-w-eq-ARROW
-arrow_end-returns-then-w-eq-ARROW t c = arrow_on c.args.text.now c.args.at (said_word c.args.w) c.requires.1 (type_step c.args.more false) c.if-w-eq-ARROW.true c.type_end.result c.type_end.ensures
-
-pub arrow_end-type_end-requires-then-w-eq-LINEAR : goal.arrow_end-type_end-requires-then-w-eq-LINEAR
-arrow_end-type_end-requires-then-w-eq-LINEAR t c = (omega (arith, c.decreases), (c.requires.1.onward (λ z. omega (arith, c.if-w-eq-LINEAR.true))).lexed)
-
-pub arrow_end-returns-then-w-eq-LINEAR : goal.arrow_end-returns-then-w-eq-LINEAR
-arrow_end-returns-then-w-eq-LINEAR t c = linear_on c.args.text.now c.args.at (said_word c.args.w) c.requires.1 (type_step c.args.more false) c.if-w-eq-ARROW.false c.if-w-eq-LINEAR.true c.type_end-then-w-eq-LINEAR.result c.type_end-then-w-eq-LINEAR.ensures
-
-pub arrow_end-returns : goal.arrow_end-returns
-arrow_end-returns t c = ends_as c.args.text.now _ _ _ _ (Ok c.args.at) (omega arith) (arrow_none c.args.text.now c.args.at (said_word c.args.w) c.requires.1 (type_step c.args.more false) c.if-w-eq-ARROW.false c.if-w-eq-LINEAR.false) (ends-here c.args.text.now c.args.at c.requires.0)
-
 pub atom_end-word_at-w-requires : goal.atom_end-word_at-w-requires
 atom_end-word_at-w-requires t c = c.requires
-
-pub atom_end-use_end-requires : goal.atom_end-use_end-requires
-atom_end-use_end-requires t c = (omega (arith, c.decreases), (c.word_at-w.ensures.onward (λ z. omega (arith, c.if-w-eq-NAME.true))).lexed)
-
-pub atom_end-returns-then-w-eq-NAME : goal.atom_end-returns-then-w-eq-NAME
-atom_end-returns-then-w-eq-NAME t c = atom_name c.args.text.now c.args.at (said_word c.word_at-w.result) c.word_at-w.ensures (type_step c.args.more false) c.if-w-eq-NAME.true c.use_end.result c.use_end.ensures
-
-pub atom_end-inside_end-requires : goal.atom_end-inside_end-requires
-atom_end-inside_end-requires t c = (omega (arith, c.decreases), (c.word_at-w.ensures.onward (λ z. omega (arith, c.if-w-eq-ROUND.true))).lexed)
-
-pub atom_end-returns-then-w-eq-ROUND : goal.atom_end-returns-then-w-eq-ROUND
-atom_end-returns-then-w-eq-ROUND t c = atom_round c.args.text.now c.args.at (said_word c.word_at-w.result) c.word_at-w.ensures (type_step c.args.more false) c.if-w-eq-ROUND.true c.inside_end.result c.inside_end.ensures
-
-pub atom_end-ones_end-requires : goal.atom_end-ones_end-requires
-atom_end-ones_end-requires t c = (c.word_at-w.ensures.onward (λ z. omega (arith, c.if-w-eq-NUMBER.true))).lexed
-
-pub atom_end-returns-then-w-eq1 : goal.atom_end-returns-then-w-eq1
-atom_end-returns-then-w-eq1 t c = atom_one c.args.text.now c.args.at (said_word c.word_at-w.result) c.word_at-w.ensures (type_step c.args.more false) c.if-w-eq-NUMBER.true c.if-w-eq1.true c.ones_end.result c.ones_end.ensures
-
-pub atom_end-returns-then-w-eq-NUMBER : goal.atom_end-returns-then-w-eq-NUMBER
-atom_end-returns-then-w-eq-NUMBER t c = atom_other c.args.text.now c.args.at (said_word c.word_at-w.result) c.word_at-w.ensures (type_step c.args.more false) c.if-w-eq-NUMBER.true c.if-w-eq1.false c.at.result c.at.ensures
-
-pub atom_end-returns : goal.atom_end-returns
-atom_end-returns t c = atom_none c.args.text.now c.args.at (said_word c.word_at-w.result) c.word_at-w.ensures (type_step c.args.more false) c.if-w-eq-NAME.false c.if-w-eq-ROUND.false c.if-w-eq-NUMBER.false c.at-2.result c.at-2.ensures
 
 pub inside_end-type_end-requires : goal.inside_end-type_end-requires
 inside_end-type_end-requires t c = (omega (arith, c.decreases), c.requires)
