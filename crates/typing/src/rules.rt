@@ -37,6 +37,7 @@ fn has_sides<L: Fn(u8) -> bool, R: Fn(u8) -> bool>(
     right(q.right)
 }
 
+// The four types of parts that have sides are a call each: a kind and two tests, which is all in which they differ.
 // Type t is the sharable arrow from the bit to the bit.
 fn is_unary(s: &[u8], t: u8) -> bool
     ensures { result ≡ stands_for (rec_in s.now) (shape_ty 1) t }
