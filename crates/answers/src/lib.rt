@@ -62,7 +62,7 @@ pub struct Refusal {
 }
 
 impl Reason {
-    // The number that callers in C see.
+    // The number that callers in C see: the one that stands beside the variant, which `as` gives.
     pub fn number(self) -> u8
         ensures { result ≡ reason_number self }
     {

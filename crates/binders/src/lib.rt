@@ -9,7 +9,8 @@ ghost use Rattle.binders.specs.Stacks.{binary_digits, set_digit, bits_of, with_b
 use answers::Reason;
 
 // For each binder in scope its type number, its sort (0 sharable, 1 linear), and for a linear one if it is used (0 or 1): sorts and
-// marks are a bit each, so that a level of the walk takes little stack.
+// marks are a bit each, so that a level of the walk takes little stack. The count stands beside the arrays, since there is no heap, and
+// the definitions (`no_binders`, `stack_of`) and the walk, which stores in place, speak of these fields.
 #[derive(Clone, Copy, Debug, PartialEq, Eq)]
 pub struct Binders {
     pub types: [u8; 128],
@@ -38,6 +39,7 @@ pub fn slot(count: usize, i: usize) -> usize
 }
 
 // A sharable variable is used, binder i of `count`, by its type and sort: its type, or refusal 10 or 11.
+// The sort is a number here and in `use_linear`: it is a bit of `sorts`, and `binder_of` takes any number but 0 for linear.
 pub fn use_shared(count: usize, i: usize, ty: u8, sort: u8) -> Result<u8, Reason>
     ensures { result ≡ shared_use count i (binder_of ty sort 0) }
 {

@@ -98,3 +98,10 @@ stands_record term s at (name a e) h = record_node s at 0x1B _ h.here term 0 2 _
 pub stands-node : (s : List ℕ) (at : ℕ) (e : Term) → Stands s at e → node_at s at ≡ node_of e at
 unfolding node_at
 stands-node s at e h = ap node_in_lem (stands_record true s at e h)
+
+-- ---- a part of a list, from an offset to so many places behind it
+
+pub part_byte : (s : List ℕ) (from n j : ℕ) → get_or (take (from + n - from) (drop from s)) j 0 ≡ get_or (take n (drop from s)) j 0
+part_byte s from n j =
+    let z : from + n - from ≡ n = omega arith in
+    rw z refl

@@ -40,7 +40,8 @@ pub enum Shape {
     Node(usize, usize, Rule),
 }
 
-// One decision over the kind byte; no shape where the kind is unknown.
+// One decision over the kind byte; no shape where the kind is unknown. This is where a byte of a sheet becomes a rule: a number goes in, as
+// in the definition of the same name, and there is one range for types and one for nodes.
 pub fn shape_of(kind: u8) -> Option<Shape>
     ensures { result ≡ shape_of kind }
 {
@@ -106,11 +107,10 @@ pub enum Record {
 }
 
 // The body's byte j, and 0 where the body is shorter.
-fn body(s: &[u8], from: usize, len: usize, j: usize) -> u8
-    requires { from + len ≤ length s.now }
-    ensures { result ≡ get_or (take len (drop from s.now)) j 0 }
+fn byte_of(body: &[u8], j: usize) -> u8
+    ensures { result ≡ get_or body.now j 0 }
 {
-    if j < len { s[from + j] } else { 0 }
+    if j < body.len() { body[j] } else { 0 }
 }
 
 // The record at an offset, or refusal 3 or 4. Inside the term no type's kind is known.
@@ -132,17 +132,19 @@ pub fn record_at(s: &[u8], at: usize, term: bool) -> Result<Record, Refusal>
             if s.len() - from < n {
                 return Err(Reason::CutShort.at(at));
             }
-            let form = form_of(rule, body(s, from, n, 0), body(s, from, n, 1));
+            let body = &s[from..from + n];
+            let form = form_of(rule, byte_of(body, 0), byte_of(body, 1));
             Ok(Record::Type(form, from + n))
         }
         Shape::Node(n, subterms, rule) => {
             if s.len() - from < n {
                 return Err(Reason::CutShort.at(at));
             }
+            let body = &s[from..from + n];
             Ok(Record::Node(Node {
                 rule,
-                first: body(s, from, n, 0),
-                second: body(s, from, n, 1),
+                first: byte_of(body, 0),
+                second: byte_of(body, 1),
                 subterms,
                 next: from + n,
             }))
@@ -180,10 +182,11 @@ pub fn node_at(s: &[u8], at: usize) -> Node
     if s.len() - from < n {
         return no_node();
     }
+    let body = &s[from..from + n];
     Node {
         rule,
-        first: body(s, from, n, 0),
-        second: body(s, from, n, 1),
+        first: byte_of(body, 0),
+        second: byte_of(body, 1),
         subterms,
         next: from + n,
     }
@@ -257,8 +260,9 @@ pub fn bound_by(s: &[u8], node: Node) -> u8
     }
 }
 
+// The library's conversion, under a name of this crate: `wide-determined` (proofs/Determined.antt) speaks of it.
 pub fn wide(x: u8) -> usize
     ensures { result ≡ x }
 {
-    x as usize
+    usize::from(x)
 }

@@ -5,7 +5,7 @@ ghost use Rattle.sheet.specs.Keys.{mixed, key_of, among_first};
 
 use records::Form;
 
-// The bytes of a record of two sides, mixed into one number.
+// The bytes of a record of two sides, mixed into one number: the kind is one of them, as `mixed` has it.
 fn mix(kind: u32, left: u8, right: u8) -> u16
     requires { kind ≤ 4 }
     ensures { result ≡ mixed kind left right }

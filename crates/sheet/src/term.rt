@@ -98,6 +98,9 @@ pub struct Span {
 }
 
 // The term at an offset, with `count` nodes before it.
+// `head_at`, `limits` and this function share offset, count and levels, which are others at each call, and sheet, types and edition, which never
+// change. They stay parameters: a struct of the first would be made anew at each call, and one of the others, which `read_term` too would have to
+// make, would be read through a pointer at each of 64 levels.
 pub fn span_at(
     s: &[u8],
     at: usize,

@@ -68,7 +68,8 @@ fn formed(s: &[u8], f: Form) -> bool
     }
 }
 
-// Type t's record, above the first, has this kind, of two sides, and these type numbers.
+// Type t's record, above the first, has this kind, of two sides, and these type numbers. The kind is the sheet's byte, which `rec_of` takes:
+// here and in `stands` bytes are compared, and no record is made of them.
 fn is_record(s: &[u8], t: usize, kind: u8, left: u8, right: u8) -> bool
     requires { (0 < t) × (t < 256) × (2 ≤ kind) × (kind ≤ 4) }
     ensures { result ≡ rec_eq (rec_in s.now t) (rec_of kind left right) }
@@ -112,7 +113,8 @@ fn repeats(s: &[u8], count: usize, f: Form) -> bool
     }
 }
 
-// The same, by the keys of the earlier records: where none of them has this one's, none is the same.
+// The same, by the keys of the earlier records: where none of them has this one's, none is the same. The array has room for all types, and the
+// count that stands beside it is that of the records too.
 fn repeats_by(s: &[u8], keys: &[u16; 256], count: usize, f: Form) -> bool
     requires { (count ≤ 256) × Keyed s.now count keys.now }
     ensures { result ≡ repeated (table_in s.now count) (said_form f) }
@@ -141,7 +143,8 @@ fn size_of(sizes: &[u8], f: Form) -> usize
     }
 }
 
-// A type record against those before it: its size, or refusal 5 to 8.
+// A type record against those before it: its size, or refusal 5 to 8. Sheet, count and record go on to `repeats_by` and from there to `repeats`,
+// and nowhere else: a struct would be made for these two calls alone.
 fn check_type(
     s: &[u8],
     at: usize,
@@ -174,7 +177,8 @@ fn check_type(
     Ok(size as u8)
 }
 
-// The type records: their number, the offset past them, and the size of each type; 0 past them.
+// The type records: their number, the offset past them, and the size of each type; 0 past them. The count stands beside the array, since
+// there is no heap, and a whole array goes on to `Reading`, whose callers take it by number of type.
 #[derive(Clone, Copy, Debug, PartialEq, Eq)]
 pub struct Types {
     pub count: usize,

@@ -1,6 +1,6 @@
 -- The typing walk in the steps of the code, over the sheet's own type records: leaves, entering, between two subterms, leaving.
 -- Assumes nothing.
-use Rattle.std.specs.Prelude.{ℕ, zero, suc, Bool, true, false, ◌&&◌, cond, Option, Some, None, Result, Ok, Err, ◌∷◌, leb, ltb, eqb, length, drop}
+use Rattle.std.specs.Prelude.{ℕ, zero, suc, ◌≡◌, Bool, true, false, ◌&&◌, cond, Option, Some, None, Result, Ok, Err, ◌∷◌, leb, ltb, eqb, length, drop}
 use Rattle.calculus.specs.Answer.{Answer, refused, ◌>>=◌, clash, a_form, need, fit}
 use Rattle.calculus.specs.Types.{Ty, bit, prod, arrow, lolli, TyRec}
 use Rattle.calculus.specs.Terms.{Edition, first, second, parts, part_at}
@@ -25,6 +25,10 @@ Types = ℕ → TyRec
 -- a record of kind k whose sides pass two tests
 abbrev pub both_sides : ℕ → TyRec → (ℕ → Bool) → (ℕ → Bool) → Bool
 both_sides k q f g = eqb (kind_no q) k && (f (left_no q) && g (right_no q))
+
+-- what is said of a number's test is what a function answers
+abbrev pub Tells : (ℕ → Bool → Type 0) → (ℕ → Bool) → Type 0
+Tells says f = (t : ℕ) (b : Bool) → says t b → b ≡ f t
 
 -- a type number stands for a type
 unfoldable pub stands_for : Types → Ty → ℕ → Bool

@@ -125,7 +125,7 @@ fn leaf(
 
 // ---- leaving a node with one subterm
 
-// A linear function's variable, the nearest binder, has been used.
+// A linear function's variable, the nearest binder, has been used. Sort and mark are bits here, as `binders::bit` reads them for `binder_of`.
 fn used_up(rule: Rule, sort: u8, mark: u8) -> bool
     ensures { (t : ℕ) (st : Stack) → result ≡ used_up rule (binder_of t sort mark ∷ st) }
 {
@@ -159,7 +159,7 @@ fn after_one(
     Ok(Fine { ty: n.first, ..f })
 }
 
-// The variable, at c and of a sort, goes out of scope.
+// The variable, at c and of a sort, which is a bit of `Binders`, goes out of scope.
 fn leave_one(s: &[u8], n: Node, node: usize, c: usize, sort: u8, x: Checked) -> Checked
     requires { c < 128 }
     ensures { (b : Binders) → sort ≡ get_or (bits_of b.sorts) c 0 → CountsOf (c + 1) (held b x) → FollowsHeld (held b x) (held (at_count b c) result) (leave_one (rec_in s.now) n.rule n.first node) }

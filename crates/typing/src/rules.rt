@@ -1,10 +1,10 @@
 // What the typing rules say of type numbers: the types of parts, what a node binds, and the type of a node by its subterms'.
-ghost use Rattle.std.specs.Prelude.{◌≡◌, ◌≤◌};
+ghost use Rattle.std.specs.Prelude.{◌≡◌, ◌≤◌, ℕ, Bool};
 ghost use Rattle.calculus.specs.Types.{bit, prod, arrow};
 ghost use Rattle.records.specs.Forms.{rec_in};
 ghost use Rattle.records.specs.Editions.{edition_by};
 ghost use Rattle.parts.specs.Table.{shape_ty, said_part};
-ghost use Rattle.typing.specs.Steps.{stands_for, ty_in, number_below, opening_of, binding_of, wanted_of, enters_of, halves_in, applied_of, paired_of, joined_of, closes_of};
+ghost use Rattle.typing.specs.Steps.{both_sides, Tells, stands_for, ty_in, number_below, opening_of, binding_of, wanted_of, enters_of, halves_in, applied_of, paired_of, joined_of, closes_of};
 
 use parts::Part;
 use records::Rule;
@@ -16,34 +16,43 @@ fn is_bit(s: &[u8], t: u8) -> bool
     records::sides_of(s, t).kind == 1
 }
 
+// Type t is of a kind that has two sides, and each side passes its test. The kind is a number, as in `records::Sided`.
+fn has_sides<L: Fn(u8) -> bool, R: Fn(u8) -> bool>(
+    s: &[u8],
+    t: u8,
+    kind: u8,
+    left: L,
+    right: R,
+) -> bool
+    requires { L.IsAlwaysCallable left × R.IsAlwaysCallable right }
+    ensures { (f g : ℕ → Bool) → Tells (L.post left) f → Tells (R.post right) g → result ≡ both_sides kind (rec_in s.now t) f g }
+{
+    let q = records::sides_of(s, t);
+    if q.kind != kind {
+        return false;
+    }
+    if !left(q.left) {
+        return false;
+    }
+    right(q.right)
+}
+
+// The four types of parts that have sides are a call each: a kind and two tests, which is all in which they differ.
 // Type t is the sharable arrow from the bit to the bit.
 fn is_unary(s: &[u8], t: u8) -> bool
     ensures { result ≡ stands_for (rec_in s.now) (shape_ty 1) t }
 {
-    let q = records::sides_of(s, t);
-    if q.kind != 3 {
-        return false;
-    }
-    if !is_bit(s, q.left) {
-        return false;
-    }
-    is_bit(s, q.right)
+    has_sides(s, t, 3, |a| is_bit(s, a), |b| is_bit(s, b))
 }
 
 // Type t is the sharable arrow from the bit to such an arrow.
 fn is_binary(s: &[u8], t: u8) -> bool
     ensures { result ≡ stands_for (rec_in s.now) (shape_ty 2) t }
 {
-    let q = records::sides_of(s, t);
-    if q.kind != 3 {
-        return false;
-    }
-    if !is_bit(s, q.left) {
-        return false;
-    }
-    is_unary(s, q.right)
+    has_sides(s, t, 3, |a| is_bit(s, a), |b| is_unary(s, b))
 }
 
+// .. or of a shape, a number as in `parts::Part`.
 fn has_shape(s: &[u8], t: u8, shape: u8) -> bool
     requires { shape ≤ 2 }
     ensures { result ≡ stands_for (rec_in s.now) (shape_ty shape) t }
@@ -59,28 +68,14 @@ fn has_shape(s: &[u8], t: u8, shape: u8) -> bool
 fn is_pair(s: &[u8], t: u8) -> bool
     ensures { result ≡ stands_for (rec_in s.now) (prod bit bit) t }
 {
-    let q = records::sides_of(s, t);
-    if q.kind != 2 {
-        return false;
-    }
-    if !is_bit(s, q.left) {
-        return false;
-    }
-    is_bit(s, q.right)
+    has_sides(s, t, 2, |a| is_bit(s, a), |b| is_bit(s, b))
 }
 
 // Type t is the sharable arrow from such a product to the bit.
 fn is_paired(s: &[u8], t: u8) -> bool
     ensures { result ≡ stands_for (rec_in s.now) (arrow (prod bit bit) bit) t }
 {
-    let q = records::sides_of(s, t);
-    if q.kind != 3 {
-        return false;
-    }
-    if !is_pair(s, q.left) {
-        return false;
-    }
-    is_bit(s, q.right)
+    has_sides(s, t, 3, |a| is_pair(s, a), |b| is_bit(s, b))
 }
 
 // Type t is a part's, in this edition.
@@ -294,6 +289,7 @@ pub fn joined(s: &[u8], rule: Rule, t: u8, a: u8, b: u8) -> Result<u8, Misfit>
 }
 
 // The binders that go out of scope: a projection's two, or the one of 1B.
+// A count, and no conversion by hand: `closes_of` counts the binders of each of the eleven rules.
 pub fn closes(rule: Rule) -> usize
     ensures { result ≡ closes_of rule }
 {

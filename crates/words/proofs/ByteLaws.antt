@@ -5,7 +5,7 @@ use mathlib.Core.Bool.{Bool, true, false, ◌&&◌, ◌||◌}
 use native.Mathlib.Omega.{arith}
 use lib.Dec.{eqb, leb}
 use borrow.Author.Tests.{ne_eqb, le-leb, lt-leb, leb-true, leb-false}
-use Rattle.notation_calculus.specs.Words.{between, blank, ends_line, digit, letter, in_name}
+use Rattle.notation_calculus.specs.Words.{between, blank, digit, letter, in_name}
 
 pub below : (a b c : ℕ) → c < a → between a b c ≡ false
 below a b c h = ap (λ (x : Bool). x && leb c b) (lt-leb a c h)
@@ -26,9 +26,6 @@ other c d h = ne_eqb c d h
 or_none_lem : (x : Bool) → (x || false) ≡ x
 or_none_lem true = refl
 or_none_lem false = refl
-
-pub late_line : (c : ℕ) → 13 < c → false ≡ ends_line c
-late_line c h = sym (ap (λ (x : Bool). x || eqb c 13) (other c 10 (λ e. absurd (omega arith))) ∙ other c 13 (λ e. absurd (omega arith)))
 
 pub late_blank : (c : ℕ) → 32 < c → blank c ≡ false
 late_blank c h = ap (λ (x : Bool). x || eqb c 32) (above 9 13 c (omega arith)) ∙ other c 32 (λ e. absurd (omega arith))
@@ -58,17 +55,6 @@ name_by c x y z e f g = sym (ap (λ (b : Bool). b || digit c || eqb c 39) e ∙ 
 
 pub late_name : (c : ℕ) → 97 ≤ c → leb c 122 ≡ in_name c
 late_name c h = sym (or_none_lem (leb c 122)) ∙ ap (λ (b : Bool). b || false) (sym (or_none_lem (leb c 122))) ∙ name_by c (leb c 122) false false (late_letter c h) (above 48 57 c (omega arith)) (other c 39 (λ e. absurd (omega arith)))
-
-pub early_name : (c : ℕ) → c < 48 → eqb c 39 ≡ in_name c
-early_name c h = name_by c false false (eqb c 39) (early_letter c (omega arith)) (below 48 57 c h) refl
-
-pub digit-name : (c : ℕ) → 48 ≤ c → c ≤ 57 → true ≡ in_name c
-digit-name c h g = name_by c false true (eqb c 39) (early_letter c (omega arith)) (inside 48 57 c h g) refl
-
-pub middle-name : (c : ℕ) → 57 < c → c < 97 → (between 65 90 c || eqb c 95) ≡ in_name c
-middle-name c h g =
-    let l = between 65 90 c || eqb c 95 in
-    sym (or_none_lem l) ∙ ap (λ (b : Bool). b || false) (sym (or_none_lem l)) ∙ name_by c l false false (middle-letter c g) (above 48 57 c h) (other c 39 (λ e. absurd (omega arith)))
 
 pub letter-name : (c : ℕ) → letter c ≡ true → in_name c ≡ true
 letter-name c e = ap (λ (b : Bool). b || digit c || eqb c 39) e

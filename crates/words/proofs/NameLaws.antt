@@ -8,7 +8,6 @@ use lib.Dec.{eqb, ltb}
 use lib.ListN.{length, get_or, take, drop}
 use lib.Seq.{drop-cons, drop-drop, take-nil}
 use borrow.Author.Tests.{ne_eqb, eq-eqb, eqb-true}
-use Rattle.laws.proofs.Regions.{drop_past}
 use Rattle.notation_calculus.specs.Words.{same_name, in_name, run}
 use Rattle.words.specs.Next.{goes_on_lem, run_at}
 use Rattle.words.specs.Stretches.{BothInside}
@@ -29,9 +28,6 @@ names-swap (c ∷ n) (d ∷ m) = ap (λ (x : Bool). x && same_name n m) (eqb_sym
 
 -- ---- what goes on a name
 
-pub goes-past : (text : List ℕ) (at : ℕ) → length text ≤ at → false ≡ goes_on_lem (drop at text)
-goes-past text at h = sym (ap goes_on_lem (drop_past text at h))
-
 pub goes-here : (text : List ℕ) (at : ℕ) (r : Bool) → at < length text → r ≡ in_name (get_or text at 0) → r ≡ goes_on_lem (drop at text)
 goes-here text at r h e = e ∙ sym (ap goes_on_lem (drop-cons text at 0 h))
 
@@ -49,16 +45,6 @@ same_parts (suc k) m (c ∷ s) (d ∷ u) =
 and_true : (x : Bool) → (x && true) ≡ x
 and_true true = refl
 and_true false = refl
-
--- one byte of each
-pub one_byte : (text : List ℕ) (a b n : ℕ) → BothInside text a b n → n < 2 → ¬ (n ≡ 0) → eqb (get_or text a 0) (get_or text b 0) ≡ same_name (take n (drop a text)) (take n (drop b text))
-one_byte text a b n inside h z =
-    let some : 0 < n = omega arith in
-    let e : n - 1 ≡ 0 = omega arith in
-    sym (ap (λ (s : List ℕ). same_name s (take n (drop b text))) (take-here text a n some (omega (arith, inside.first)))
-    ∙ ap (λ (s : List ℕ). same_name (get_or text a 0 ∷ take (n - 1) (drop (a + 1) text)) s) (take-here text b n some (omega (arith, inside.second)))
-    ∙ ap (λ (m : ℕ). eqb (get_or text a 0) (get_or text b 0) && same_name (take m (drop (a + 1) text)) (take m (drop (b + 1) text))) e
-    ∙ and_true (eqb (get_or text a 0) (get_or text b 0)))
 
 -- a name's bytes at both places, with a byte behind them at the second
 pub inside_both : (text : List ℕ) (a b n : ℕ) → a ≤ length text → n ≡ run (drop a text) → n < length text - b → BothInside text a b n
@@ -219,13 +205,6 @@ module _ (text : List ℕ) (a b n i : ℕ) where
       let y : b + i + k ≡ b + (i + k) = omega arith in
       let z : n - i - k ≡ n - (i + k) = omega arith in
       rw (x, y, z) refl
-
-pub left-all : (text : List ℕ) (a b n : ℕ) → Left text a b n 0
-left-all text a b n =
-    let x : a + 0 ≡ a = omega arith in
-    let y : b + 0 ≡ b = omega arith in
-    let z : n - 0 ≡ n = omega arith in
-    rw (x, y, z) refl
 
 -- ---- as many bytes as the first name has
 

@@ -1,39 +1,15 @@
--- Bytes that pass a test, one after the other, and what a run and a gap have of them. Assumes nothing.
+-- What a run and a gap have of bytes that pass a test. Assumes nothing.
 use Prim.Native.Nat.{ℕ, zero, suc, ◌+◌, ◌-◌, ◌≤◌, ◌<◌}
-use mathlib.Core.Path.{◌≡◌, refl, sym, ap, subst}
+use mathlib.Core.Path.{◌≡◌, refl, sym, ap}
 use mathlib.Core.Bool.{Bool, true, false}
 use mathlib.Core.List.{List}
 use native.Mathlib.Omega.{arith}
-use lib.Dec.{eqb, leb}
+use lib.Dec.{leb}
 use lib.ListN.{length, get_or, drop}
-use borrow.Author.Tests.{eqb-true, eqb-false, leb-true, leb-false}
+use borrow.Author.Tests.{leb-true, leb-false}
 use Rattle.notation_calculus.specs.Words.{in_name, blank, run, gap}
 use Rattle.words.specs.Steps.{PassedTo}
 use Rattle.words.proofs.WordLaws.{run_on, run-stops, run_past, gap-blank}
-
--- the byte at an offset is the last of the first n + 1 ones
-last_or : (i at : ℕ) → i < at + 1 → ¬ (i ≡ at) → i < at
-last_or i at h n = omega (arith, h, n)
-
-module _ (says : ℕ → Bool → Type 0) (s : List ℕ) (from at : ℕ) where
-  abbrev pub PassedBelow : Type 0
-  PassedBelow = (i : ℕ) → from ≤ i → i < at → says (get_or s i 0) true
-
-pub one_more : (s : List ℕ) (from at : ℕ) (says : ℕ → Bool → Type 0) → PassedBelow says s from at → says (get_or s at 0) true → PassedBelow says s from (at + 1)
-one_more s from at says below here i h k = by (eqb i at) refl
-  where
-    by : (x : Bool) → eqb i at ≡ x → says (get_or s i 0) true
-    by true e = subst (λ (j : ℕ). says (get_or s j 0) true) (sym (eqb-true i at e)) here
-    by false e = below i h (last_or i at k (eqb-false i at e))
-
-pub at_end : (says : ℕ → Bool → Type 0) (s : List ℕ) (from at : ℕ) → from ≤ length s → length s ≤ at → PassedBelow says s from at → PassedTo says s from (length s)
-at_end says s from at h e below =
-    record {
-      behind = h;
-      inside = omega arith;
-      passed = λ i f k. below i f (omega (arith, k, e));
-      stops = λ k. absurd (omega (arith, k));
-    }
 
 -- ---- runs and gaps
 

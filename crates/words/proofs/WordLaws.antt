@@ -55,20 +55,11 @@ dashes_at s at = eqb (get_or s at 0) 45 && eqb (first (drop (at + 1) s)) 45
 comment_cons : (c : ℕ) (s : List ℕ) (b : Bool) → ends_line c ≡ b → gap true (c ∷ s) ≡ suc (gap (not b) s)
 comment_cons c s b e = ap (λ (x : Bool). suc (gap (not x) s)) e
 
-pub comment_ends : (s : List ℕ) (at : ℕ) → at < length s → ends_line (get_or s at 0) ≡ true → gap true (drop at s) ≡ suc (gap false (drop (at + 1) s))
-comment_ends s at h e = ap (gap true) (drop_here s at h) ∙ comment_cons (get_or s at 0) (drop (at + 1) s) true e
-
-pub comment_on : (s : List ℕ) (at : ℕ) → at < length s → ends_line (get_or s at 0) ≡ false → gap true (drop at s) ≡ suc (gap true (drop (at + 1) s))
-comment_on s at h e = ap (gap true) (drop_here s at h) ∙ comment_cons (get_or s at 0) (drop (at + 1) s) false e
-
 gap_cons : (c : ℕ) (s : List ℕ) (b d : Bool) → blank c ≡ b → (eqb c 45 && eqb (first s) 45) ≡ d → gap false (c ∷ s) ≡ cond b (suc (gap false s)) (cond d (suc (gap true s)) 0)
 gap_cons c s b d e g = ap (λ (x : Bool). cond x (suc (gap false s)) (cond (eqb c 45 && eqb (first s) 45) (suc (gap true s)) 0)) e ∙ ap (λ (x : Bool). cond b (suc (gap false s)) (cond x (suc (gap true s)) 0)) g
 
 pub gap-blank : (s : List ℕ) (at : ℕ) → at < length s → blank (get_or s at 0) ≡ true → gap false (drop at s) ≡ suc (gap false (drop (at + 1) s))
 gap-blank s at h e = ap (gap false) (drop_here s at h) ∙ gap_cons (get_or s at 0) (drop (at + 1) s) true _ e refl
-
-pub gap_dashes : (s : List ℕ) (at : ℕ) → at < length s → blank (get_or s at 0) ≡ false → dashes_at s at ≡ true → gap false (drop at s) ≡ suc (gap true (drop (at + 1) s))
-gap_dashes s at h e d = ap (gap false) (drop_here s at h) ∙ gap_cons (get_or s at 0) (drop (at + 1) s) false true e d
 
 pub gap-stops : (s : List ℕ) (at : ℕ) → at < length s → blank (get_or s at 0) ≡ false → dashes_at s at ≡ false → gap false (drop at s) ≡ 0
 gap-stops s at h e d = ap (gap false) (drop_here s at h) ∙ gap_cons (get_or s at 0) (drop (at + 1) s) false false e d
@@ -90,10 +81,6 @@ at_front (c ∷ s) (suc n) = at_front s n
 pub and_false : (b : Bool) → (b && false) ≡ false
 and_false true = refl
 and_false false = refl
-
--- the last byte begins no comment
-pub no_second : (s : List ℕ) (at : ℕ) → length s ≤ at + 1 → false ≡ dashes_at s at
-no_second s at h = sym (ap (λ (r : List ℕ). eqb (get_or s at 0) 45 && eqb (first r) 45) (drop_past s (at + 1) h) ∙ and_false (eqb (get_or s at 0) 45))
 
 -- a byte that is no dash begins no comment
 pub no_dash : (s : List ℕ) (at : ℕ) → eqb (get_or s at 0) 45 ≡ false → dashes_at s at ≡ false

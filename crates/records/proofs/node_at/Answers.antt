@@ -1,7 +1,9 @@
 -- `records::node_at` meets its contract: by the tests of the offset, the kind and the body that the code makes in this order. Assumes nothing.
+use Prim.Native.Nat.{◌+◌}
 use borrow.Author.Tests.{le-leb, lt-leb}
 use mathlib.Core.Path.{sym, ◌∙◌}
 use Rattle.records.specs.Record.{record_at, node_at}
+use Rattle.records.proofs.Laws.{part_byte}
 use Rattle.records.proofs.node_at.Goals as goal
 
 pub returns-then-s-at : goal.returns-then-s-at
@@ -24,4 +26,6 @@ returns-then-s-from c =
 pub returns : goal.returns
 unfolding node_at record_at
 returns c =
-    rw (lt-leb _ _ c.if-s-at.false, sym c.shape_of.ensures ∙ c.in-Some.is, c.in-Node.is, le-leb _ _ c.if-s-from.false, ← c.body.ensures, ← c.body-2.ensures)
+    let s = c.args.s.now in
+    let from = c.args.at + 1 in
+    rw (lt-leb _ _ c.if-s-at.false, sym c.shape_of.ensures ∙ c.in-Some.is, c.in-Node.is, le-leb _ _ c.if-s-from.false, ← (c.byte_of.ensures ∙ part_byte s from c.in-Node.n 0), ← (c.byte_of-2.ensures ∙ part_byte s from c.in-Node.n 1))

@@ -1,7 +1,9 @@
 -- `records::record_at` meets its contract: by the tests of the offset, the kind and the body that the code makes in this order. Assumes nothing.
+use Prim.Native.Nat.{◌+◌}
 use borrow.Author.Tests.{le-leb, lt-leb}
 use mathlib.Core.Path.{◌∙◌, sym}
 use Rattle.records.specs.Record.{record_at}
+use Rattle.records.proofs.Laws.{part_byte}
 use Rattle.records.proofs.record_at.Goals as goal
 
 pub returns-then-s-at : goal.returns-then-s-at
@@ -27,9 +29,13 @@ returns-then-s-from-2 c = rw (lt-leb _ _ c.if-s-at.false, sym c.shape_of.ensures
 pub returns-else-s-from : goal.returns-else-s-from
 unfolding record_at
 returns-else-s-from c =
-    rw (lt-leb _ _ c.if-s-at.false, sym c.shape_of.ensures ∙ c.in-Some.is, c.in-Type.is, c.if-term.false, le-leb _ _ c.if-s-from.false, c.form_of-form.ensures, ← c.body.ensures, ← c.body-in-Type.ensures)
+    let s = c.args.s.now in
+    let from = c.args.at + 1 in
+    rw (lt-leb _ _ c.if-s-at.false, sym c.shape_of.ensures ∙ c.in-Some.is, c.in-Type.is, c.if-term.false, le-leb _ _ c.if-s-from.false, c.form_of-form.ensures, ← (c.byte_of.ensures ∙ part_byte s from c.in-Type.n 0), ← (c.byte_of-in-Type.ensures ∙ part_byte s from c.in-Type.n 1))
 
 pub returns-else-s-from-2 : goal.returns-else-s-from-2
 unfolding record_at
 returns-else-s-from-2 c =
-    rw (lt-leb _ _ c.if-s-at.false, sym c.shape_of.ensures ∙ c.in-Some.is, c.in-Node.is, le-leb _ _ c.if-s-from-2.false, ← c.body-in-Node.ensures, ← c.body-in-Node-2.ensures)
+    let s = c.args.s.now in
+    let from = c.args.at + 1 in
+    rw (lt-leb _ _ c.if-s-at.false, sym c.shape_of.ensures ∙ c.in-Some.is, c.in-Node.is, le-leb _ _ c.if-s-from-2.false, ← (c.byte_of-in-Node.ensures ∙ part_byte s from c.in-Node.n 0), ← (c.byte_of-in-Node-2.ensures ∙ part_byte s from c.in-Node.n 1))

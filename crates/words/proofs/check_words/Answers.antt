@@ -6,14 +6,8 @@ use Rattle.answers.specs.declared.Reason.{Reason}
 use Rattle.answers.specs.declared.Refusal.{Refusal}
 use Rattle.answers.specs.Refusals.{refusal_at}
 use Rattle.words.specs.Lexed.{Passed}
-use Rattle.words.proofs.LexLaws.{pending_first, went, passed_bad, passed_good}
+use Rattle.words.proofs.LexLaws.{went, passed_bad, passed_good}
 use Rattle.words.proofs.check_words.Goals as goal
-
-pub loop-at-init : goal.loop-at-init
-loop-at-init c = pending_first c.args.text.now
-
-pub next-w-requires : goal.next-w-requires
-next-w-requires c = c.loop-at.invariant.within
 
 pub returns-then-w-gt-POWER : goal.returns-then-w-gt-POWER
 returns-then-w-gt-POWER c =

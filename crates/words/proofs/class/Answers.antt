@@ -96,6 +96,3 @@ returns-in-97 c = by _ c.in-97.is
 
 pub returns-in-102 : goal.returns-in-102
 returns-in-102 c = reserves _ 102 refl refl refl refl c.in-102.is
-
-pub returns-in_default : goal.returns-in_default
-returns-in_default c = c.rare_class.ensures

@@ -9,18 +9,6 @@ use Rattle.words.proofs.ClassLaws.{class_stops, class_blank, class_other}
 use Rattle.words.proofs.LexLaws.{next-end, next_word, word-sign}
 use Rattle.words.proofs.next.Goals as goal
 
-pub blanks_end-start-requires : goal.blanks_end-start-requires
-blanks_end-start-requires c = c.requires
-
-pub loop-start-init : goal.loop-start-init
-loop-start-init c = c.blanks_end-start.ensures.1
-
-pub class-k-requires : goal.class-k-requires
-class-k-requires c = tt
-
-pub word_by-requires : goal.word_by-requires
-word_by-requires c = (c.loop-start-test.true, c.class-k.ensures, c.if-k-gt1.true)
-
 pub returns-then-k-gt1 : goal.returns-then-k-gt1
 returns-then-k-gt1 c =
     let a = c.args in
@@ -30,12 +18,6 @@ returns-then-k-gt1 c =
     let stops = class_stops a.text.now l.start k.result h k.ensures c.if-k-gt1.true in
     c.word_by.ensures ∙ next_word a.text.now a.at l.start (omega (arith, stops, l.invariant.1)) h
 
-pub blanks_end-start-requires-then-k-eq1 : goal.blanks_end-start-requires-then-k-eq1
-blanks_end-start-requires-then-k-eq1 c = omega (arith, c.loop-start-test.true)
-
-pub loop-start-smaller-then-k-eq1 : goal.loop-start-smaller-then-k-eq1
-loop-start-smaller-then-k-eq1 c = omega (arith, c.loop-start-test.true, c.blanks_end-start-then-k-eq1.ensures.0, c.blanks_end-start-then-k-eq1.ensures.1.0)
-
 pub loop-start-preserved-then-k-eq1 : goal.loop-start-preserved-then-k-eq1
 loop-start-preserved-then-k-eq1 c =
     let a = c.args in
@@ -44,22 +26,6 @@ loop-start-preserved-then-k-eq1 c =
     let k = c.class-k in
     let on = gap-blank a.text.now l.start h (class_blank (get_or a.text.now l.start 0) k.result k.ensures c.if-k-eq1.true) in
     (c.blanks_end-start-then-k-eq1.ensures.1.0, omega (arith, on, l.invariant.1, c.blanks_end-start-then-k-eq1.ensures.1.1))
-
-pub step-past-requires : goal.step-past-requires
-step-past-requires c =
-    let a = c.args in
-    let l = c.loop-start in
-    let k = c.class-k in
-    let z : k.result ≡ 0 = omega (arith, c.if-k-gt1.false, c.if-k-eq1.false) in
-    (c.loop-start-test.true, (class_other (get_or a.text.now l.start 0) k.result k.ensures z).0)
-
-pub sign_at-requires : goal.sign_at-requires
-sign_at-requires c =
-    let a = c.args in
-    let l = c.loop-start in
-    let k = c.class-k in
-    let z : k.result ≡ 0 = omega (arith, c.if-k-gt1.false, c.if-k-eq1.false) in
-    (c.loop-start-test.true, (class_other (get_or a.text.now l.start 0) k.result k.ensures z).3)
 
 pub returns-then-past-start : goal.returns-then-past-start
 returns-then-past-start c =
@@ -71,19 +37,6 @@ returns-then-past-start c =
     let stops = c.step-past.ensures.3 c.if-past-start.true in
     let rest = class_other (get_or a.text.now l.start 0) k.result k.ensures z in
     c.sign_at.ensures ∙ word-sign a.text.now l.start rest.1 rest.2 ∙ next_word a.text.now a.at l.start (omega (arith, stops, l.invariant.1)) h
-
-pub loop-start-smaller : goal.loop-start-smaller
-loop-start-smaller c =
-    let s = c.step-past.ensures in
-    let h = c.loop-start-test.true in
-    let d = c.if-past-start.false in
-    omega (arith, s.0, s.1, h, d)
-
-pub loop-start-preserved : goal.loop-start-preserved
-loop-start-preserved c =
-    let l = c.loop-start in
-    let s = c.step-past.ensures in
-    (s.1, s.2 ∙ l.invariant.1)
 
 pub returns : goal.returns
 returns c =

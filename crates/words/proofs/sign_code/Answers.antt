@@ -29,6 +29,3 @@ returns-in-44 c = coded _ 44 14 c.in-44.is (signed (omega arith) (omega arith) (
 pub returns-in-46 : goal.returns-in-46
 unfolding row_of signs
 returns-in-46 c = coded _ 46 16 c.in-46.is (signed (omega arith) (omega arith) (refl, refl) refl refl (λ s. refl)) (omega arith) (omega arith)
-
-pub returns-in_default : goal.returns-in_default
-returns-in_default c = record { class = λ n. absurd (n refl); word = λ n. absurd (n refl); sign = omega arith }

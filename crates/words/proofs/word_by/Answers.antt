@@ -2,7 +2,7 @@
 use mathlib.Core.Path.{◌∙◌}
 use native.Mathlib.Omega.{arith}
 use Rattle.words.proofs.LexLaws.{word_number, word-name, word-single}
-use Rattle.words.proofs.ClassLaws.{class_sign, class_number, class_plain, class_name}
+use Rattle.words.proofs.ClassLaws.{class_sign, class_number, class_name}
 use Rattle.words.proofs.word_by.Goals as goal
 
 pub returns-then-class-lt64 : goal.returns-then-class-lt64
@@ -18,24 +18,12 @@ returns-then-class-eq64 c =
     let p = c.requires in
     c.number_at.ensures ∙ word_number a.text.now a.start (class_number _ a.class p.1 c.if-class-eq64.true)
 
-pub plain_at-requires : goal.plain_at-requires
-plain_at-requires c =
-    let a = c.args in
-    let p = c.requires in
-    (p.0, class_plain _ a.class p.1 c.if-class-eq65.true)
-
 pub returns-then-class-eq65 : goal.returns-then-class-eq65
 returns-then-class-eq65 c =
     let a = c.args in
     let p = c.requires in
     let t = class_name _ a.class p.1 (omega (arith, c.if-class-eq65.true)) in
     c.plain_at.ensures ∙ word-name a.text.now a.start t.0 t.1
-
-pub named_at-requires : goal.named_at-requires
-named_at-requires c =
-    let a = c.args in
-    let p = c.requires in
-    (p.0, (class_name _ a.class p.1 (omega (arith, c.if-class-lt64.false, c.if-class-eq64.false))).1)
 
 pub returns : goal.returns
 returns c =

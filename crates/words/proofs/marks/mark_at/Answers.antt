@@ -3,17 +3,11 @@ use Rattle.words.specs.Next.{said_word}
 use Rattle.words.proofs.MarkLaws.{marks-word, marks-none}
 use Rattle.words.proofs.marks.mark_at.Goals as goal
 
-pub gap_end-start-requires : goal.gap_end-start-requires
-gap_end-start-requires c = c.requires.within
-
 pub returns-then-unread : goal.returns-then-unread
 returns-then-unread c =
     let g = c.gap_end-start in
     let u = c.unread.ensures c.if-unread.true in
     marks-none c.args.text.now c.args.at c.requires g.result u.0 g.ensures.1 u.1
-
-pub next-requires : goal.next-requires
-next-requires c = c.requires.within
 
 -- TODO the place Start is passed on
 pub returns : goal.returns

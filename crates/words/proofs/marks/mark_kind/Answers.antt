@@ -4,17 +4,11 @@ use Rattle.words.specs.Next.{said_word}
 use Rattle.words.proofs.MarkLaws.{marks-word, marks-none}
 use Rattle.words.proofs.marks.mark_kind.Goals as goal
 
-pub gap_end-start-requires : goal.gap_end-start-requires
-gap_end-start-requires c = c.requires.within
-
 pub returns-then-unread : goal.returns-then-unread
 returns-then-unread c =
     let g = c.gap_end-start in
     let u = c.unread.ensures c.if-unread.true in
     record { word = record { code = 24; value = 0; place = g.result; end = g.result }; code = refl; marks = marks-none c.args.text.now c.args.at c.requires g.result u.0 g.ensures.1 u.1 }
-
-pub next-w-requires : goal.next-w-requires
-next-w-requires c = c.requires.within
 
 pub returns : goal.returns
 returns c =

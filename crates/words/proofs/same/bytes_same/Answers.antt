@@ -1,14 +1,11 @@
 -- `words::bytes_same` meets its contract. The invariant: what is left of both stretches tells whether they are the same. Assumes nothing.
-use Prim.Native.Nat.{ℕ, ◌+◌, ◌*◌, ◌-◌, ◌/◌}
+use Prim.Native.Nat.{◌+◌, ◌*◌, ◌-◌}
 use mathlib.Core.Path.{◌≡◌, sym, subst, ◌∙◌}
 use native.Mathlib.Omega.{arith}
-use Rattle.words.proofs.NameLaws.{Left, stretch-differ, stretch_on, left-all, left_on, left-inside}
+use Rattle.words.proofs.NameLaws.{Left, stretch-differ, stretch_on, left_on, left-inside}
 use Rattle.words.proofs.same.bytes_same.Goals as goal
 
 -- TODO the place Start is passed on
-pub loop-k-init : goal.loop-k-init
-loop-k-init c = let s = c in left-all s.args.text.now s.args.a s.args.b s.args.n
-
 pub returns-then-key8 : goal.returns-then-key8
 returns-then-key8 c =
     let t = c.shared_slice_known-1 in
@@ -27,13 +24,3 @@ loop-k-preserved c =
     let y = c.key8-in-loop-k in
     let next : i + 8 ≡ 8 * (c.loop-k.k + 1) = omega arith in
     subst (Left c.args.text.now c.args.a c.args.b c.args.n) next (c.loop-k.invariant ∙ stretch_on c.args.text.now (c.args.a + i) (c.args.b + i) (c.args.n - i) 8 (left-inside c.args.text.now c.args.a c.args.b c.args.n i c.requires (omega (arith, h))) (omega (arith, h)) (λ n. omega (arith, t.given n)) x.result y.result x.ensures y.ensures c.if-key8.false ∙ left_on c.args.text.now c.args.a c.args.b c.args.n i 8)
-
-pub rest_same-requires : goal.rest_same-requires
-rest_same-requires c =
-    (left-inside c.args.text.now c.args.a c.args.b c.args.n (8 * (c.args.n / 8)) c.requires (omega arith), omega arith)
-
-pub returns : goal.returns
-returns c =
-    let test = c.loop-k-test.false in
-    let end : c.loop-k.k ≡ c.args.n / 8 = omega arith in
-    c.rest_same.ensures ∙ sym (subst (λ (k : ℕ). Left c.args.text.now c.args.a c.args.b c.args.n (8 * k)) end c.loop-k.invariant)

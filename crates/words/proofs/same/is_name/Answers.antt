@@ -8,46 +8,8 @@ use Rattle.words.proofs.FoundLaws.{run_inside}
 use Rattle.words.proofs.NameLaws.{goes-here, inside_both, brief-outer, brief-inner, names-differ, names-behind}
 use Rattle.words.proofs.same.is_name.Goals as goal
 
-pub second-o-requires : goal.second-o-requires
-second-o-requires c = let b = c.brief.ensures (not_no _ c.if-not-brief.false-raw) in b.0
-
-pub overflow_sub-l : goal.overflow_sub-l
-overflow_sub-l c =
-    let b = c.brief.ensures (not_no _ c.if-not-brief.false-raw) in
-    omega (arith, b.0, b.1.0, b.1.1, c.requires.1.1, run_inside c.args.text.now c.args.name c.requires.0, c.second-o.ensures.1)
-
-pub overflow_sub-p : goal.overflow_sub-p
-overflow_sub-p c =
-    let b = c.brief.ensures (not_no _ c.if-not-brief.false-raw) in
-    omega (arith, b.0, b.1.0, b.1.1, c.requires.1.1, run_inside c.args.text.now c.args.name c.requires.0, c.second-o.ensures.1)
-
-pub bounds-text-name : goal.bounds-text-name
-bounds-text-name c =
-    let b = c.brief.ensures (not_no _ c.if-not-brief.false-raw) in
-    omega (arith, b.0, b.1.0, b.1.1, c.requires.1.1, run_inside c.args.text.now c.args.name c.requires.0, c.second-o.ensures.1)
-
-pub bounds-text-at : goal.bounds-text-at
-bounds-text-at c =
-    let b = c.brief.ensures (not_no _ c.if-not-brief.false-raw) in
-    omega (arith, b.0, b.1.0, b.1.1, c.requires.1.1, run_inside c.args.text.now c.args.name c.requires.0, c.second-o.ensures.1)
-
-pub overflow_add-name : goal.overflow_add-name
-overflow_add-name c =
-    let b = c.brief.ensures (not_no _ c.if-not-brief.false-raw) in
-    omega (arith, b.0, b.1.0, b.1.1, c.requires.1.1, run_inside c.args.text.now c.args.name c.requires.0, c.second-o.ensures.1)
-
 pub bounds-text-name-2 : goal.bounds-text-name-2
 bounds-text-name-2 c =
-    let b = c.brief.ensures (not_no _ c.if-not-brief.false-raw) in
-    omega (arith, b.0, b.1.0, b.1.1, c.requires.1.1, run_inside c.args.text.now c.args.name c.requires.0, c.second-o.ensures.1)
-
-pub overflow_add-at : goal.overflow_add-at
-overflow_add-at c =
-    let b = c.brief.ensures (not_no _ c.if-not-brief.false-raw) in
-    omega (arith, b.0, b.1.0, b.1.1, c.requires.1.1, run_inside c.args.text.now c.args.name c.requires.0, c.second-o.ensures.1)
-
-pub bounds-text-at-2 : goal.bounds-text-at-2
-bounds-text-at-2 c =
     let b = c.brief.ensures (not_no _ c.if-not-brief.false-raw) in
     omega (arith, b.0, b.1.0, b.1.1, c.requires.1.1, run_inside c.args.text.now c.args.name c.requires.0, c.second-o.ensures.1)
 
@@ -57,43 +19,8 @@ returns-then-not-both c =
     let o = c.second-o in
     names-differ c.args.text.now c.args.name c.args.at c.args.long c.requires.1.1 (brief-outer c.args.text.now c.args.name c.args.at c.args.long o.result (inside_both c.args.text.now c.args.name c.args.at c.args.long c.requires.0 c.requires.1.1 b.1.1) b.0 b.1.0 o.ensures.0 c.both.result _ c.both.ensures refl (not_yes _ c.if-not-both.true-raw))
 
-pub overflow_add-name-2 : goal.overflow_add-name-2
-overflow_add-name-2 c =
-    let b = c.brief.ensures (not_no _ c.if-not-brief.false-raw) in
-    omega (arith, b.0, b.1.0, b.1.1, c.requires.1.1, run_inside c.args.text.now c.args.name c.requires.0, c.second-o.ensures.1)
-
-pub bounds-text-name-3 : goal.bounds-text-name-3
-bounds-text-name-3 c =
-    let b = c.brief.ensures (not_no _ c.if-not-brief.false-raw) in
-    omega (arith, b.0, b.1.0, b.1.1, c.requires.1.1, run_inside c.args.text.now c.args.name c.requires.0, c.second-o.ensures.1)
-
-pub overflow_add-at-2 : goal.overflow_add-at-2
-overflow_add-at-2 c =
-    let b = c.brief.ensures (not_no _ c.if-not-brief.false-raw) in
-    omega (arith, b.0, b.1.0, b.1.1, c.requires.1.1, run_inside c.args.text.now c.args.name c.requires.0, c.second-o.ensures.1)
-
-pub bounds-text-at-3 : goal.bounds-text-at-3
-bounds-text-at-3 c =
-    let b = c.brief.ensures (not_no _ c.if-not-brief.false-raw) in
-    omega (arith, b.0, b.1.0, b.1.1, c.requires.1.1, run_inside c.args.text.now c.args.name c.requires.0, c.second-o.ensures.1)
-
-pub overflow_add-name-3 : goal.overflow_add-name-3
-overflow_add-name-3 c =
-    let b = c.brief.ensures (not_no _ c.if-not-brief.false-raw) in
-    omega (arith, b.0, b.1.0, b.1.1, c.requires.1.1, run_inside c.args.text.now c.args.name c.requires.0, c.second-o.ensures.1)
-
 pub bounds-text-name-4 : goal.bounds-text-name-4
 bounds-text-name-4 c =
-    let b = c.brief.ensures (not_no _ c.if-not-brief.false-raw) in
-    omega (arith, b.0, b.1.0, b.1.1, c.requires.1.1, run_inside c.args.text.now c.args.name c.requires.0, c.second-o.ensures.1)
-
-pub overflow_add-at-3 : goal.overflow_add-at-3
-overflow_add-at-3 c =
-    let b = c.brief.ensures (not_no _ c.if-not-brief.false-raw) in
-    omega (arith, b.0, b.1.0, b.1.1, c.requires.1.1, run_inside c.args.text.now c.args.name c.requires.0, c.second-o.ensures.1)
-
-pub bounds-text-at-4 : goal.bounds-text-at-4
-bounds-text-at-4 c =
     let b = c.brief.ensures (not_no _ c.if-not-brief.false-raw) in
     omega (arith, b.0, b.1.0, b.1.1, c.requires.1.1, run_inside c.args.text.now c.args.name c.requires.0, c.second-o.ensures.1)
 
@@ -104,16 +31,6 @@ returns-then-not-both-2 c =
     let x = c.both in
     let y = c.both-2 in
     names-differ c.args.text.now c.args.name c.args.at c.args.long c.requires.1.1 (sym (brief-inner c.args.text.now c.args.name c.args.at c.args.long o.result (inside_both c.args.text.now c.args.name c.args.at c.args.long c.requires.0 c.requires.1.1 b.1.1) b.0 b.1.0 o.ensures.0 x.result y.result x.ensures y.ensures (not_no _ c.if-not-both.false-raw)) ∙ not_yes _ c.if-not-both-2.true-raw)
-
-pub overflow_add-at-4 : goal.overflow_add-at-4
-overflow_add-at-4 c =
-    let b = c.brief.ensures (not_no _ c.if-not-brief.false-raw) in
-    omega (arith, b.0, b.1.0, b.1.1, c.requires.1.1, run_inside c.args.text.now c.args.name c.requires.0, c.second-o.ensures.1)
-
-pub bounds-text-at-5 : goal.bounds-text-at-5
-bounds-text-at-5 c =
-    let b = c.brief.ensures (not_no _ c.if-not-brief.false-raw) in
-    omega (arith, b.0, b.1.0, b.1.1, c.requires.1.1, run_inside c.args.text.now c.args.name c.requires.0, c.second-o.ensures.1)
 
 pub returns : goal.returns
 returns c =

@@ -4,9 +4,6 @@ use native.Mathlib.Omega.{arith}
 use Rattle.words.proofs.KeyLaws.{key_more}
 use Rattle.words.proofs.spelling.key7.Goals as goal
 
-pub overflow_add-result : goal.overflow_add-result
-overflow_add-result c = record { fits = omega (arith, c.key6.ensures.1, c.from.ensures, c.type_inv.text (c.args.at + 6)) }
-
 pub returns : goal.returns
 returns c =
     let a = c.args in

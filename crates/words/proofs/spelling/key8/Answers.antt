@@ -1,11 +1,6 @@
 -- `words::key8` meets its contract: it has one byte more. Assumes nothing.
-use Prim.Native.Nat.{◌+◌}
-use native.Mathlib.Omega.{arith}
 use Rattle.words.proofs.KeyLaws.{key_more}
 use Rattle.words.proofs.spelling.key8.Goals as goal
-
-pub overflow_add-result : goal.overflow_add-result
-overflow_add-result c = record { fits = omega (arith, c.key7.ensures.1, c.from.ensures, c.type_inv.text (c.args.at + 7)) }
 
 pub returns : goal.returns
 returns c =

@@ -2,9 +2,6 @@
 use Rattle.words.proofs.LexLaws.{start-found}
 use Rattle.words.proofs.starts.start_of.Goals as goal
 
-pub gap_end-requires : goal.gap_end-requires
-gap_end-requires c = c.requires.within
-
 -- TODO the place Start is passed on
 pub returns : goal.returns
 returns c = let s = c in start-found s.args.text.now s.args.at s.requires c.gap_end.result c.gap_end.ensures.1
