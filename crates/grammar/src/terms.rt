@@ -44,6 +44,7 @@ fn tuple_end(text: &[u8], at: usize, more: usize) -> Result<usize, Refusal>
 }
 
 // By the word at an offset: a name that is used, a part, or terms in parentheses. A word is passed on by its fields, which take no stack at each level.
+// Its kind is a number, as in `words::Word`: `WordThere` and the grammar's definitions compare it with `token_code`.
 #[cycle(atom_end_bound_end_let_body_end_spine_end_term_end_tuple_end)]
 fn atom_end(
     text: &[u8],

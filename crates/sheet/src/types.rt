@@ -186,7 +186,7 @@ pub struct Types {
     pub sizes: [u8; 256],
 }
 
-fn no_sizes() -> [u8; 256]
+pub fn no_sizes() -> [u8; 256]
     ensures { result ≡ sizes_of [] }
 {
     [0u8; 256]

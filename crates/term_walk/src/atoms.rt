@@ -44,7 +44,7 @@ fn put_clause(
 {
     let below = h.more - 1;
     let q = putting::put_in(text, work, false, name, at, types, h.frame, h.top, below)?;
-    let l = crate::part_level(Form::OfDefinition, s, 0, q.end as u16);
+    let l = crate::part_level(Form::OfDefinition as u16, s, 0, q.end as u16);
     crate::ask(work, h, l, below, q.top, h.waiting, q.body)
 }
 
@@ -83,7 +83,8 @@ fn plain_at(
     behind_atom(work, h, s, made, at)
 }
 
-// Behind a name: arguments, or none.
+// Behind a name: arguments, or none. The four functions from `put_clause` on share what stands left of the atom, the name's place and the offset behind
+// it. `atom_at` has them one by one, and the offset is another in each of the four, so that a struct of them would be made anew each time.
 fn named_at(
     text: &[u8],
     work: &mut [u16],
@@ -124,7 +125,7 @@ pub fn atom_at(
 {
     let s = Left { place, function };
     if kind == ROUND {
-        let l = crate::part_level(Form::Element, s, 0, 0);
+        let l = crate::part_level(Form::Element as u16, s, 0, 0);
         return crate::ask(work, h, l, h.frame, h.top, h.waiting, end);
     }
     if kind == words::PART {

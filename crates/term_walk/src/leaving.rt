@@ -179,7 +179,7 @@ fn leave_element(text: &[u8], work: &mut [u16], h: Walk, l: Level) -> Result<Wal
     };
     let i = h.waiting + usize::from(l.count);
     halves::put_half(work, i, half);
-    let after = crate::part_level(Form::Element, left_of(l), l.count + 1, 0);
+    let after = crate::part_level(Form::Element as u16, left_of(l), l.count + 1, 0);
     crate::ask(work, h, after, h.frame, h.top, i + 1, w.end)
 }
 

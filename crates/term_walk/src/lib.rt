@@ -91,15 +91,15 @@ pub fn nothing() -> Sub
 }
 
 // A level that waits for a part of an application: the function so far stays.
-pub fn part_level(form: Form, s: Left, count: u16, next: u16) -> Level
-    ensures { result ≡ part_level (form_number form) s count next }
+pub fn part_level(form: u16, s: Left, count: u16, next: u16) -> Level
+    ensures { result ≡ part_level form s count next }
 {
     let (flag, sub) = match s.function {
         None => (0, nothing()),
         Some(f) => (1, f),
     };
     Level {
-        form: form as u16,
+        form,
         flag,
         place: s.place,
         count,
@@ -112,7 +112,8 @@ pub fn part_level(form: Form, s: Left, count: u16, next: u16) -> Level
 
 // ---- the next state
 
-// The level that the walk is at waits, and a term is wanted at an offset one level below, in a scope: the walk is there.
+// The level that the walk is at waits, and a term is wanted at an offset one level below, in a scope: the walk is there. The scope comes as its frame,
+// its entries and the terms that wait, since callers change one of the three and take the others from the walk.
 pub fn below(
     work: &mut [u16],
     h: Walk,

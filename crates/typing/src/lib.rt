@@ -90,7 +90,8 @@ fn constant(s: &[u8], n: Node, node: usize, types: usize, second: bool) -> Resul
 }
 
 // A node without subterms, under `scope` binders with these sorts and marks; `ty` is the type of the one that its number names. A linear
-// variable is marked whatever the answer: after a refusal nobody looks at the marks.
+// variable is marked whatever the answer: after a refusal nobody looks at the marks. The node's number is a parameter beside the node, here and below: the
+// walk counts it, and the sheet's record does not hold it. The number of types and the edition stand beside the sheet, since only `constant` asks for them.
 fn leaf(
     s: &[u8],
     n: Node,

@@ -8,7 +8,8 @@ ghost use Rattle.words.specs.Stretches.{BothInside};
 use crate::spelling::{key2, key4, key8};
 use crate::{both, goes_on, in_name, run_end};
 
-// None, one, two or four bytes, at once.
+// None, one, two or four bytes, at once. The two places are two parameters here and below: they move on by other steps at each call, and a pair of them
+// would be taken apart again wherever a byte is read.
 fn part_same(text: &[u8], a: usize, b: usize, n: usize) -> bool
     requires { (BothInside text.now a b n) × ((n ≤ 4) × ¬ (n ≡ 3)) }
     ensures { result ≡ same_name (take n (drop a text.now)) (take n (drop b text.now)) }
