@@ -53,6 +53,7 @@ pub enum Reason {
 }
 
 // A refusal: why, and where, and for a misfit the type number wanted and the one found. Callers pass it on unread.
+// The two types are 0 for every other reason: Rattle gives numbers only to enums whose variants are all bare, so that a reason holds no types.
 #[derive(Clone, Copy, Debug, PartialEq, Eq)]
 pub struct Refusal {
     pub reason: Reason,

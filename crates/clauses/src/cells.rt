@@ -34,7 +34,8 @@ fn cells_in(n: usize) -> usize
 }
 
 // An offset and the count of the numbers there stay two parameters, here, in `numbers_fit` and in `meant::fit_all`: `Row` has both among its fields, and
-// the later part of a list, which `numbers_fit` hands on, is no row. The first entry of the values goes beside them, also to `cells_fit`, as `Asked` has it.
+// the later part of a list, which `numbers_fit` hands on, is no row. The first entry of the values goes beside them, also to
+// `cells_fit`: it moves on with the offset, and the count goes down.
 // The cells of row k, for the n numbers behind an offset; and where the later ones stand.
 pub fn store(text: &[u8], work: &mut [u16], k: usize, at: usize, n: usize)
     requires { (NumbersThere text.now at n) × ((length text.now ≤ 65535) × ((k < 256) × (making_size ≤ length work.old))) }

@@ -12,7 +12,7 @@ ghost use Rattle.foreign.specs.Walk.{WalkAgrees, said_check, called_check};
 use answers::{Reason, Refusal};
 use take::{Stage, State};
 
-// `check`, `judge` and `walk` take the netlist, the working memory and `lean` one by one: the memory is changed, and each clause speaks of one of the
+// `check`, `judge` and `walk` take the netlist, the working memory and `lean` one by one: the memory is changed, and the clauses speak of the
 // three, so a struct of them would be taken apart in every clause.
 //
 // All records in byte order, as the reader hands them out, over a table that is clear: the first terminal above those taken.

@@ -13,7 +13,7 @@ const ROUND: u8 = 11;
 
 const EQUALS: u8 = 13;
 
-// The code of a word is a number here too (see `words::Word`): `opens_group`, `closes_group`, `depth_by` and `stops_by` compare it.
+// The code of a word is a number in this file, also in `word_begins` (see `words::Word`): `opens_group`, `closes_group`, `depth_by` and `stops_by` compare it.
 fn opens(kind: u8) -> bool
     ensures { result ≡ opens_group kind }
 {

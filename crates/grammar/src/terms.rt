@@ -44,7 +44,7 @@ fn tuple_end(text: &[u8], at: usize, more: usize) -> Result<usize, Refusal>
 }
 
 // By the word at an offset: a name that is used, a part, or terms in parentheses. A word is passed on by its fields, which take no stack at each level.
-// Its kind is a number, as in `words::Word`: `WordThere` and the grammar's definitions compare it with `token_code`.
+// Its kind is a number, here and in `spine_end`, as in `words::Word`: `WordThere` and the grammar's definitions compare it with `token_code`.
 #[cycle(atom_end_bound_end_let_body_end_spine_end_term_end_tuple_end)]
 fn atom_end(
     text: &[u8],
@@ -123,7 +123,7 @@ fn let_body_end(text: &[u8], at: usize, more: usize) -> Result<usize, Refusal>
     term_end(text, d, more)
 }
 
-// Where the term at an offset ends: 32, or 34 where there are more than so many levels.
+// Where the term at an offset ends: 32, or 34 where there are more than so many levels. A `match` on the kind would have the same four arms.
 #[cycle(atom_end_bound_end_let_body_end_spine_end_term_end_tuple_end)]
 pub fn term_end(text: &[u8], at: usize, more: usize) -> Result<usize, Refusal>
     requires { Lexed text.now at }

@@ -71,7 +71,7 @@ fn inside_end(text: &[u8], at: usize, more: usize) -> Result<usize, Refusal>
     steps::expect(text, t, END_ROUND)
 }
 
-// 1, bits in a row, a name that is used, or a type in parentheses.
+// 1, bits in a row, a name that is used, or a type in parentheses. The word's kind is a number, here and in `arrow_end`, as in `words::Word`.
 #[cycle(arguments_end_arrow_end_atom_end_inside_end_product_end_type_end_use_end)]
 fn atom_end(text: &[u8], at: usize, more: usize) -> Result<usize, Refusal>
     requires { Lexed text.now at }

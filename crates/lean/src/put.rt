@@ -125,7 +125,7 @@ impl<'a> Writer<'a> {
         here.at
     }
 
-    // The record of the wire to input x.
+    // The record of the wire to input x. It is like verilog's `put_wire`, which writes text: the two share only the tests of the entry.
     fn put_wire(self, x: usize, out: &mut [u8], at: usize) -> usize
         requires { LeanReady self.work.now self.end self.pins × ((x < self.end) × (at + length (wire_bytes_at (entry self.work.now x) x) ≤ length out.old)) }
         ensures { let w = self.entry.work.now in

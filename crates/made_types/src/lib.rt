@@ -21,6 +21,7 @@ pub enum Kind {
 }
 
 impl Kind {
+    // The number of a kind, as the sheet and the memory hold it: no derive gives it.
     pub fn number(self) -> u16
         ensures { result ≡ kind_byte self }
     {

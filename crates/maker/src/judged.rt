@@ -28,8 +28,8 @@ fn is_judged(text: &[u8], r: Row) -> bool
     !mains::named_main(text, r.name)
 }
 
-// The body of a definition: a type is worked out. The functions from here to `tried` share a text, the memory and an offset, as `lines` does in the other
-// file: two borrows and a number, which a struct would only lend again.
+// The body of a definition: a type is worked out. The functions from here to `tried`, and those of `lines`, share a text, the memory
+// and an offset: two borrows and a number, which a struct would only lend again.
 fn type_body(text: &[u8], work: &mut [u16], at: usize) -> Result<(), Refusal>
     requires { CanTry text.now work.old at true }
     ensures { TrySays text.now work.old at true result work.new }

@@ -76,7 +76,8 @@ fn types(text: &[u8], work: &mut [u16], start: usize, seen: usize) -> Result<Wen
     }
 }
 
-// .. behind `table`, in the text's own scope.
+// .. behind `table`, in the text's own scope. The offset and the count of clauses above stay two here and in `types`: the offset is the one behind the word
+// `table`, and no place where an item went.
 fn line(text: &[u8], work: &mut [u16], start: usize, seen: usize) -> Result<Went, Refusal>
     requires { CanLine text.now work.old start seen }
     ensures { LineSays text.now work.old start seen result work.new }
@@ -86,20 +87,23 @@ fn line(text: &[u8], work: &mut [u16], start: usize, seen: usize) -> Result<Went
 }
 
 // The item at an offset, behind so many clauses; none at the text's end.
-fn item(text: &[u8], work: &mut [u16], at: usize, seen: usize) -> Result<Option<Went>, Refusal>
-    requires { CanItem text.now work.old at seen }
-    ensures { ItemSays text.now work.old at seen result work.new }
+fn item(text: &[u8], work: &mut [u16], here: Went) -> Result<Option<Went>, Refusal>
+    requires { CanItem text.now work.old here.at here.seen }
+    ensures { ItemSays text.now work.old here.at here.seen result work.new }
 {
-    let w = words::word_at(text, at);
+    let w = words::word_at(text, here.at);
     if w.kind == 0 {
         return Ok(None);
     }
     if w.kind == TABLE {
-        let past = line(text, work, w.end, seen)?;
+        let past = line(text, work, w.end, here.seen)?;
         return Ok(Some(past));
     }
-    let at = items::item_end(text, at).unwrap();
-    Ok(Some(Went { at, seen: seen + 1 }))
+    let at = items::item_end(text, here.at).unwrap();
+    Ok(Some(Went {
+        at,
+        seen: here.seen + 1,
+    }))
 }
 
 // All items from an offset on, above which so many clauses stand.
@@ -107,11 +111,12 @@ pub fn lines(text: &[u8], work: &mut [u16], start: usize, above: usize) -> Resul
     requires { CanItem text.now work.old start above }
     ensures { LinesSay text.now work.old start above result work.new }
 {
-    let mut at = start;
-    let mut seen = above;
-    while let Some(past) = item(text, work, at, seen)? {
-        at = past.at;
-        seen = past.seen;
+    let mut here = Went {
+        at: start,
+        seen: above,
+    };
+    while let Some(past) = item(text, work, here)? {
+        here = past;
     }
     Ok(())
 }

@@ -27,7 +27,7 @@ fn own_elements(s: &[u8], sizes: &[u8], node: Node) -> usize
     }
 }
 
-// So many elements, from an offset on, name a node. They stand in the one working memory, since memory is fixed: so there is an offset and a count.
+// So many elements, from an offset on, name a node. An offset and a count: with a slice the caller would write the same bounds.
 fn name_own(work: &mut [u16], to: usize, count: usize, node: u16)
     requires { to + count ≤ length work.old }
     ensures { work.new ≡ sets work.old to (replicate count node) }

@@ -15,7 +15,7 @@ pub struct Part {
     pub paired: bool,
 }
 
-// A name: its letters, zeros behind them, and how many there are.
+// A name: its letters, zeros behind them, and how many there are. An array and a count, and no slice: `name_of` promises the zeros too (`padded`).
 #[derive(Clone, Copy, Debug, PartialEq, Eq)]
 pub struct Name {
     pub letters: [u8; 4],
@@ -90,8 +90,7 @@ const PARTS: [Part; 7] = [
     },
 ];
 
-// The names beside them: who looks up a part wants no name on its stack. Four letters by value and their count:
-// a table of slices would be no plainer for the one caller, which copies the letters.
+// The names stand beside the parts, so that a caller that looks up a part has no name on its stack.
 const NAMES: [Name; 7] = [
     Name {
         letters: [b'z', b'e', b'r', b'o'],

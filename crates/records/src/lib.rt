@@ -212,8 +212,8 @@ pub fn type_at(s: &[u8], t: u8) -> Form
     form_of(rule, s[at + 1], s[at + 2])
 }
 
-// A type record as numbers: its kind, 1 to 4, and its two sides, 0 for the single bit. They stay numbers, since the typing rules compare
-// each by one test, where a match on a form has four arms.
+// A type record as numbers: its kind, 1 to 4, and its two sides, 0 for the single bit. They stay numbers: the
+// definition `sided_of` has them so, and the typing rules (`both_sides`, `opening_of`, `applied_of`) compare the kind as a number.
 #[derive(Clone, Copy, Debug, PartialEq, Eq)]
 pub struct Sided {
     pub kind: u8,

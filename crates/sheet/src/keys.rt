@@ -41,8 +41,8 @@ fn either(a: bool, b: bool) -> bool
     b
 }
 
-// One of the first `count` keys is this one. The loop has no way out before its end, so that the compiler compares several at once: for
-// 256 types this is most of the reading.
+// One of the first `count` keys is this one. The array is of fixed size, and `Keyed` and `among_first` speak of it and of how many of its keys count.
+// The loop has no way out before its end, so that the compiler compares several at once: for 256 types this is most of the reading.
 pub fn among(keys: &[u16; 256], count: usize, key: u16) -> bool
     requires { count ≤ 256 }
     ensures { result ≡ among_first keys.now count key }

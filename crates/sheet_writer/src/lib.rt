@@ -36,8 +36,8 @@ fn types_length(work: &[u16], n: usize) -> usize
     total
 }
 
-// A type's record at an offset. Behind it. `write_type`, `write_record` and `write_term` take the memory, the output and the offset one by one: a
-// struct of them would have to hold the places too, which only `write_term` writes.
+// A type's record at an offset. Behind it. `write_type`, `write_record` and `write_term` take the memory, the output and the offset one by one: the
+// memory is read, the output is written, and the offset is another at each call, so that a struct of them would be made anew for each record.
 fn write_type(work: &[u16], out: &mut [u8], t: usize, at: usize) -> usize
     requires { (making_size ≤ length work.now) × ((t < 256) × ((TypeLow work.now t) × (at + length (type_bytes work.now t) ≤ length out.old))) }
     ensures { (result ≡ at + length (type_bytes work.now t)) × (out.new ≡ sets out.old at (type_bytes work.now t)) }

@@ -14,7 +14,8 @@ pub fn bind_name(work: &mut [u16], top: usize, place: usize, ty: u16)
     entries::bind(work, top, place, usize::from(ty));
 }
 
-// The names of `fun` at an offset, each bound with one type.
+// The names of `fun` at an offset, each bound with one type. Text, memory, offset, count and entry come one by one, as in `apart::apart`: each is called
+// from one place of term_walk, which has the entry apart from the names, so that a struct would be made for one call.
 pub fn bind_names(text: &[u8], work: &mut [u16], at: usize, count: usize, top: usize, ty: u16)
     requires { CanBind text.now work.old at count top }
     ensures { NamesBound text.now work.old at count top ty work.new }

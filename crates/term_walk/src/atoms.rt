@@ -83,8 +83,8 @@ fn plain_at(
     behind_atom(work, h, s, made, at)
 }
 
-// Behind a name: arguments, or none. The four functions from `put_clause` on share what stands left of the atom, the name's place and the offset behind
-// it. `atom_at` has them one by one, and the offset is another in each of the four, so that a struct of them would be made anew each time.
+// Behind a name: arguments, or none. What stands left of the atom, the name's place and the offset behind it go one by one through the four
+// functions from `put_clause` on: `plain_at` looks the name up and hands the rest to `behind_atom`, and `put_term` moves the offset on.
 fn named_at(
     text: &[u8],
     work: &mut [u16],

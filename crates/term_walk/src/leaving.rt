@@ -38,7 +38,8 @@ fn left_of(l: Level) -> Left
     }
 }
 
-// The functions from here to `leave_by` take the walk and the level that it is at; the level is read once, in `leave`.
+// The functions from here to `leave_by` take the walk and the level that it is at; the level is read once, in `leave`,
+// and is not of the walk's struct, since a walk that goes on has left it.
 
 // ---- binders
 

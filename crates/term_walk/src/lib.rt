@@ -25,6 +25,9 @@ pub enum Phase {
     Applying,
 }
 
+// Text, memory and walk are three parameters in all functions of this crate: the text is only read and the walk is a value, and in a struct with the
+// memory, which is written, each clause would also have to say that the two are as they were.
+//
 // Its phase; how many levels there may be from this one on; the frame of the scope, its entries, and how many terms wait; where the
 // application begins; the term that came or the function; and the offset of the next word.
 #[derive(Clone, Copy)]
@@ -90,7 +93,8 @@ pub fn nothing() -> Sub
     }
 }
 
-// A level that waits for a part of an application: the function so far stays.
+// A level that waits for a part of an application: the function so far stays. The form is a number, as in `Level`, and no `Form`: the level is promised for
+// every number, and a `Form` would ask more of callers.
 pub fn part_level(form: u16, s: Left, count: u16, next: u16) -> Level
     ensures { result ≡ part_level form s count next }
 {

@@ -21,6 +21,8 @@ pub struct Items {
     pub count: usize,
 }
 
+// `list_made` and `list_in` take a list as `Items` and the offset beside it: `under_lists` has the offset before it has a list.
+//
 // Behind the items of a list: the closing parenthesis, and the sign of a code.
 pub fn closed(text: &[u8], at: usize, sign: u8) -> Result<usize, Refusal>
     requires { (Lexed text.now at) × (0 < sign) }

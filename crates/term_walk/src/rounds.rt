@@ -14,7 +14,7 @@ const FIX: u8 = 2;
 
 const LET: u8 = 3;
 
-// A term is wanted at the offset.
+// A term is wanted at the offset. The word's kind is a number, as in `words::Word`: see `atoms::atom_at`.
 fn enter(text: &[u8], work: &mut [u16], h: Walk) -> Result<Walk, Refusal>
     requires { (CanMoveTerm text.now work.old h) × (h.phase ≡ Phase.Wanted) }
     ensures { StepSays text.now work.old h result work.new }
@@ -67,6 +67,8 @@ fn finished(n: Walk, more: usize) -> bool
 const STEPS: u64 = 6442549247;
 
 // The term at an offset, with so many levels, in a scope. The counter of steps only shows that the loop ends.
+// The offset, the levels, the frame and the entries stay four, here and in `looks::type_behind`, as in `type_walk::type_from`: a `Walk` has them with a
+// phase, a place and a term, which no caller of these two chooses.
 pub fn term_from(
     text: &[u8],
     work: &mut [u16],

@@ -32,7 +32,7 @@ impl Side {
         self as u16
     }
 
-    // The kind of the type that the sign makes of its sides.
+    // The kind of the type that the sign makes of its sides. A `From` would have the same three arms.
     pub fn kind(self) -> Kind
         ensures { result ≡ kind_said self }
     {

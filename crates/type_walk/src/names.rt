@@ -13,7 +13,7 @@ use walk_levels::Level;
 use walks::PutAt;
 
 // A name, the count of its arguments and the offset behind them stay three parameters, here, in `put_type`, `plain_at`, `named_at` and
-// `steps::behind_argument`: each call changes one of them and hands the others on.
+// `steps::behind_argument`: each function changes some of them and hands the others on.
 // The next argument is wanted, of a name at a place, where so many wait already.
 pub fn ask_argument(
     text: &[u8],

@@ -87,7 +87,7 @@ pub fn arrow_from(
 }
 
 // A type and the offset behind it are passed one by one, here, in `done`, `arrow_from` and the functions of `steps` behind a type that came: they come from
-// two places (`rows`, `names::plain_at`, `steps::behind_side`), so that each of these calls would have to make a `walks::TypeEnd` of them first.
+// three places (`rows`, `names::plain_at`, `steps::behind_side`), so that each of these calls would have to make a `walks::TypeEnd` of them first.
 // Behind an atom.
 pub fn side_from(
     text: &[u8],

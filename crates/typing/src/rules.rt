@@ -16,7 +16,8 @@ fn is_bit(s: &[u8], t: u8) -> bool
     records::sides_of(s, t).kind == 1
 }
 
-// Type t is of a kind that has two sides, and each side passes its test. The kind is a number, as in `records::Sided`.
+// Type t is of a kind that has two sides, and each side passes its test. The kind is a number, as in `records::Sided`: `both_sides`
+// compares it.
 fn has_sides<L: Fn(u8) -> bool, R: Fn(u8) -> bool>(
     s: &[u8],
     t: u8,
@@ -37,7 +38,7 @@ fn has_sides<L: Fn(u8) -> bool, R: Fn(u8) -> bool>(
     right(q.right)
 }
 
-// The four types of parts that have sides are a call each: a kind and two tests, which is all in which they differ.
+// These four questions are a call each: a kind and two tests, which is all in which they differ.
 // Type t is the sharable arrow from the bit to the bit.
 fn is_unary(s: &[u8], t: u8) -> bool
     ensures { result ≡ stands_for (rec_in s.now) (shape_ty 1) t }
@@ -117,6 +118,9 @@ pub enum Opening {
     Linear(u8),
 }
 
+// Sheet, rule and a type are three parameters in the functions that follow: the type is the node's own in `opens`, `wanted` and `joined`, and the first
+// subterm's in `enters` and `halves_of`, so that no one struct fits them.
+//
 // None where the written type has the wrong shape.
 pub fn opens(s: &[u8], rule: Rule, t: u8) -> Option<Opening>
     ensures { result ≡ opening_of rule t (rec_in s.now t) }

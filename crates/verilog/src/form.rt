@@ -33,7 +33,8 @@ fn put_four(out: &mut [u8], at: usize, n: usize)
     put_digit(out, at + 3, n);
 }
 
-// The three numbers of a form stay three arguments: most callers write two of them as 0, and in a struct each of these calls would name three fields.
+// The three numbers of a form stay three arguments: half of the sixteen calls write 0 for one, two or all of them, and in a
+// struct each call would name three fields.
 //
 // The number that a mark stands for.
 fn number_of(c: u8, x: usize, y: usize, z: usize) -> usize

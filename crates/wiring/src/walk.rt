@@ -1,5 +1,6 @@
 // The making walk: what a term makes, its interface on a stack in the working memory.
 // The sheet's bytes and its types' sizes stay two arguments: in one struct, each clause would have to name two fields of it.
+// Node, state and memory go one by one too: the memory is written, and in a struct with the other two each clause would also have to say that these stay.
 // A binder's place stays a number, 2 n + 1 or 2 h: it is kept in the fixed memory.
 ghost use Rattle.std.specs.Prelude.{◌≡◌, true, false, ◌∷◌, [], ◌+◌, ◌*◌, ◌≤◌, ◌<◌, length, get_or};
 ghost use Rattle.std.proofs.lemmas.List.Edits.{sets};

@@ -52,7 +52,7 @@ pub fn copy(work: &mut [u16], from: usize, to: usize, n: usize)
     work.copy_within(from..from + n, to);
 }
 
-// n numbers, all x.
+// n numbers, all x. An offset and a count: with a slice the callers would write the same bounds.
 pub fn fill(work: &mut [u16], to: usize, n: usize, x: u16)
     requires { to + n ≤ length work.old }
     ensures { work.new ≡ sets work.old to (replicate n x) }

@@ -336,7 +336,7 @@ fn sign_at(text: &[u8], start: usize) -> Word
     }
 }
 
-// A sign of one byte, by its code: `SignCode` says of it what `token_code` does.
+// A sign of one byte, by its code, which is a number, as in `Word`.
 fn single(kind: u8, start: usize) -> Word
     requires { start < 18446744073709551615 }
     ensures { said_word result ≡ record { code = kind; value = 0; place = start; end = start + 1 } }

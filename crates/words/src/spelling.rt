@@ -6,7 +6,7 @@ ghost use Rattle.words.specs.Keys.{key_of};
 ghost use Rattle.words.specs.Tables.{said_row, row_of, two_signs, three_signs};
 
 // A row: its token's code and value, and the spelling's length; 0 where no row fits.
-// The code is a number, as in `Word`: `row_of` gives it by `token_code`.
+// The code is a number, here and in `as_row`, as in `Word`: `row_of` gives it by `token_code`.
 #[derive(Clone, Copy)]
 pub struct Row {
     pub kind: u8,

@@ -12,29 +12,29 @@ loop-past-init c =
 pub item-requires : goal.item-requires
 item-requires c =
     let o = c.loop-past in
-    items_can c.args.text.now c.args.work.now c.args.start c.args.above c.requires o.work o.at o.seen o.invariant
+    items_can c.args.text.now c.args.work.now c.args.start c.args.above c.requires o.work o.here.at o.here.seen o.invariant
 
 pub loop-past-smaller : goal.loop-past-smaller
 loop-past-smaller c =
     let o = c.loop-past in
-    items-less c.args.text.now c.args.work.now c.args.start c.args.above c.requires o.work o.at o.seen o.invariant _ _ c.in_ok-past.ensures _ c.in-Some.is
+    items-less c.args.text.now c.args.work.now c.args.start c.args.above c.requires o.work o.here.at o.here.seen o.invariant _ _ c.in_ok-past.ensures _ c.in-Some.is
 
 pub loop-past-preserved : goal.loop-past-preserved
 loop-past-preserved c =
     let o = c.loop-past in
-    items_more c.args.text.now c.args.work.now c.args.start c.args.above c.requires o.work o.at o.seen o.invariant _ _ c.in_ok-past.ensures _ c.in-Some.is
+    items_more c.args.text.now c.args.work.now c.args.start c.args.above c.requires o.work o.here.at o.here.seen o.invariant _ _ c.in_ok-past.ensures _ c.in-Some.is
 
 pub returns-in_err-past : goal.returns-in_err-past
 returns-in_err-past c =
     let o = c.loop-past in
-    rw (passed c.from_residual.result c.from_residual.ensures.1) (items_refused c.args.text.now c.args.work.now c.args.start c.args.above c.requires o.work o.at o.seen o.invariant _ _ c.in_err-past.ensures)
+    rw (passed c.from_residual.result c.from_residual.ensures.1) (items_refused c.args.text.now c.args.work.now c.args.start c.args.above c.requires o.work o.here.at o.here.seen o.invariant _ _ c.in_err-past.ensures)
 
 pub shape_of-work : goal.shape_of-work
 shape_of-work c =
     let o = c.loop-past in
-    (items_kept c.args.text.now c.args.work.now c.args.start c.args.above c.requires o.work o.at o.seen o.invariant _ _ c.in_ok-past.ensures).same
+    (items_kept c.args.text.now c.args.work.now c.args.start c.args.above c.requires o.work o.here.at o.here.seen o.invariant _ _ c.in_ok-past.ensures).same
 
 pub returns : goal.returns
 returns c =
     let o = c.loop-past in
-    items_end c.args.text.now c.args.work.now c.args.start c.args.above c.requires o.work o.at o.seen o.invariant _ _ c.in_ok-past.ensures c.in_default.is
+    items_end c.args.text.now c.args.work.now c.args.start c.args.above c.requires o.work o.here.at o.here.seen o.invariant _ _ c.in_ok-past.ensures c.in_default.is

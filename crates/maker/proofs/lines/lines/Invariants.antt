@@ -6,7 +6,7 @@ use Rattle.maker.proofs.ItemSteps.{ItemsGoing}
 use Rattle.maker.proofs.lines.lines.Given as goal
 
 abbrev pub invariant-loop-past : goal.invariant-loop-past
-invariant-loop-past l = ItemsGoing l.text l.initial.work l.start l.above l.work l.at l.seen
+invariant-loop-past l = ItemsGoing l.text l.initial.work l.start l.above l.work l.here.at l.here.seen
 
 abbrev pub decreases-loop-past : goal.decreases-loop-past
-decreases-loop-past l = length (from l.text l.at)
+decreases-loop-past l = length (from l.text l.here.at)
