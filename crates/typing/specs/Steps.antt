@@ -27,8 +27,8 @@ abbrev pub both_sides : ℕ → TyRec → (ℕ → Bool) → (ℕ → Bool) → 
 both_sides k q f g = eqb (kind_no q) k && (f (left_no q) && g (right_no q))
 
 -- what is said of a number's test is what a function answers
-abbrev pub Tells : (ℕ → Bool → Type 0) → (ℕ → Bool) → Type 0
-Tells says f = (t : ℕ) (b : Bool) → says t b → b ≡ f t
+abbrev pub AnswersTest : (ℕ → Bool → Type 0) → (ℕ → Bool) → Type 0
+AnswersTest says f = (t : ℕ) (b : Bool) → says t b → b ≡ f t
 
 -- a type number stands for a type
 unfoldable pub stands_for : Types → Ty → ℕ → Bool

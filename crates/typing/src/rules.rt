@@ -4,7 +4,7 @@ ghost use Rattle.calculus.specs.Types.{bit, prod, arrow};
 ghost use Rattle.records.specs.Forms.{rec_in};
 ghost use Rattle.records.specs.Editions.{edition_by};
 ghost use Rattle.parts.specs.Table.{shape_ty, said_part};
-ghost use Rattle.typing.specs.Steps.{both_sides, Tells, stands_for, ty_in, number_below, opening_of, binding_of, wanted_of, enters_of, halves_in, applied_of, paired_of, joined_of, closes_of};
+ghost use Rattle.typing.specs.Steps.{both_sides, AnswersTest, stands_for, ty_in, number_below, opening_of, binding_of, wanted_of, enters_of, halves_in, applied_of, paired_of, joined_of, closes_of};
 
 use parts::Part;
 use records::Rule;
@@ -26,7 +26,7 @@ fn has_sides<L: Fn(u8) -> bool, R: Fn(u8) -> bool>(
     right: R,
 ) -> bool
     requires { L.IsAlwaysCallable left × R.IsAlwaysCallable right }
-    ensures { (f g : ℕ → Bool) → Tells (L.post left) f → Tells (R.post right) g → result ≡ both_sides kind (rec_in s.now t) f g }
+    ensures { (f g : ℕ → Bool) → AnswersTest (L.post left) f → AnswersTest (R.post right) g → result ≡ both_sides kind (rec_in s.now t) f g }
 {
     let q = records::sides_of(s, t);
     if q.kind != kind {

@@ -13,8 +13,8 @@ use Rattle.words.proofs.WordLaws.{run_on, run-stops, run_past, gap-blank}
 
 -- ---- runs and gaps
 
-abbrev pub Tells : (ℕ → Bool) → (ℕ → Bool → Type 0) → Type 0
-Tells test says = (c : ℕ) (b : Bool) → says c b → b ≡ test c
+abbrev pub TestTold : (ℕ → Bool) → (ℕ → Bool → Type 0) → Type 0
+TestTold test says = (c : ℕ) (b : Bool) → says c b → b ≡ test c
 
 -- as many bytes as are left before the end of the stretch
 run_over : (s : List ℕ) (r k at : ℕ) → r ≡ at + k → r ≤ length s → ((i : ℕ) → at ≤ i → i < r → in_name (get_or s i 0) ≡ true) → (r < length s → in_name (get_or s r 0) ≡ false) → r ≡ at + run (drop at s)
@@ -41,10 +41,10 @@ gap_over s r (suc k) at e h all =
     let more = gap_over s r k (at + 1) (omega (arith, e)) h (λ i f g. all i (omega (arith, f)) g) in
     omega (arith, on, more)
 
-pub run_passed : (says : ℕ → Bool → Type 0) (s : List ℕ) (at r : ℕ) → Tells in_name says → PassedTo says s at r → r ≡ at + run (drop at s)
+pub run_passed : (says : ℕ → Bool → Type 0) (s : List ℕ) (at r : ℕ) → TestTold in_name says → PassedTo says s at r → r ≡ at + run (drop at s)
 run_passed says s at r tells p =
     run_over s r (r - at) at (omega (arith, p.behind)) p.inside (λ i f g. sym (tells (get_or s i 0) true (p.passed i f g))) (λ f. sym (tells (get_or s r 0) false (p.stops f)))
 
-pub gap_passed : (says : ℕ → Bool → Type 0) (s : List ℕ) (at r : ℕ) → Tells blank says → PassedTo says s at r → r + gap false (drop r s) ≡ at + gap false (drop at s)
+pub gap_passed : (says : ℕ → Bool → Type 0) (s : List ℕ) (at r : ℕ) → TestTold blank says → PassedTo says s at r → r + gap false (drop r s) ≡ at + gap false (drop at s)
 gap_passed says s at r tells p =
     gap_over s r (r - at) at (omega (arith, p.behind)) p.inside (λ i f g. sym (tells (get_or s i 0) true (p.passed i f g)))
