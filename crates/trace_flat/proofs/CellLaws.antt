@@ -130,9 +130,6 @@ flat_tick_is g n r i o bits from to u out₀ a b c d out l m q h t =
 
 -- ---- ticks one after the other
 
-pub flat_ran_start : (g : ℕ → ℕ) (z : Counts) (bits u out₀ : List ℕ) → FlatRan g z bits 0 u out₀ u out₀
-flat_ran_start g z bits u out₀ = record { cells = cells_none u; size = refl; whole = refl }
-
 pub flat-ran_next : (g : ℕ → ℕ) (z : Counts) (bits : List ℕ) (t : ℕ) (u out₀ w out v w' : List ℕ) → FlatRan g z bits t u out₀ w out → FlatTicked g z bits (t * z.ins) (t * z.outs) w out w' v
     → FlatRan g z bits (t + 1) u out₀ w' v
 flat-ran_next g z bits t u out₀ w out v w' r k = record {

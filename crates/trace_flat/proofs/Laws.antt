@@ -6,7 +6,7 @@ use mathlib.Core.Bool.{Bool, true, false, cond}
 use mathlib.Core.List.{List}
 use native.Mathlib.Omega.{arith}
 use native.Mathlib.Decide.{ℕ_discrete}
-use lib.Dec.{T, eqb, ltb}
+use lib.Dec.{T, ltb}
 use borrow.Author.Tests.{eq-eqb, ne_eqb}
 use lib.ListN.{length, get_or, set, length-set}
 use lib.Seq.{get_or-set_same, get_or-set_other}
@@ -14,11 +14,11 @@ use Rattle.memory.specs.Map.{memory_size}
 use Rattle.trace_steps.specs.Map.{registers_at, order_at, pins_at, bits_at, inverter_entry}
 use Rattle.trace_steps.specs.Turns.{take_turns}
 use Rattle.trace_steps.specs.Steps.{first_in, Looks, Ordered, Registers}
-use Rattle.trace_steps.specs.Words.{chosen_word, word_at, input_word}
+use Rattle.trace_steps.specs.Words.{word_at, input_word}
 use Rattle.trace_steps.specs.Pins.{pin_is_in, in_pin_count, out_pin_count, PinsLow}
 use Rattle.trace_steps.proofs.PinLaws.{ins-next, outs-next, ins_up, outs_up, ins_yes, ins_no, outs_yes, outs_no}
 use Rattle.trace_steps.proofs.Laws.{turns_next, first_low, set_other}
-use Rattle.trace_flat.specs.Flat.{OnlyBetween, FlatGate, Gates, Sources, GatesLaid, SourcesLaid, PinsLaid, first_at, second_at_lem, third_at, gates_at, ins_at, outs_at, sources_at, next_at, shown_at, zero_at, one_at, flat_most, there_at, form_word, flat_step, second_for, third_for, first_place, last_place, lay_at}
+use Rattle.trace_flat.specs.Flat.{OnlyBetween, Gates, GatesLaid, SourcesLaid, PinsLaid, first_at, second_at_lem, third_at, gates_at, ins_at, outs_at, sources_at, next_at, zero_at, flat_most, flat_step, second_for, third_for, first_place, last_place, lay_at}
 
 false≢true : false ≡ true → ⊥
 false≢true e = subst T (sym e) tt
@@ -41,37 +41,12 @@ pub stretch-step : (lo hi : ℕ) (f : ℕ → List ℕ → List ℕ) (u w v : Li
     → OnlyBetween lo hi u v × (v ≡ take_turns f (j + 1) 0 u)
 stretch-step lo hi f u w v j i q e k = (subst (λ (z : List ℕ). OnlyBetween lo hi u z) (sym e) (between_then i k), e ∙ turns_next f j u w q)
 
--- the gates' places stay where only what they show changes
-pub gate-between : {u w : List ℕ} → OnlyBetween gates_at ins_at u w → {j : ℕ} → FlatGate u j → FlatGate w j
-gate-between b {j} g =
-    let s = b.size in
-    let z = g.size in
-    let f = g.few in
-    let x = b.below (first_at + j) (omega arith) in
-    let y = b.below (second_at_lem + j) (omega arith) in
-    let t = b.below (third_at + j) (omega arith) in
-    let p = g.first in
-    let q = g.second in
-    let r = g.third in record { size = omega arith; few = f; first = omega arith; second = omega arith; third = omega arith }
-
-pub source-between : {u w : List ℕ} {n : ℕ} → OnlyBetween next_at shown_at u w → Sources u n → (j : ℕ) → j < n → get_or w (sources_at + j) 0 < memory_size
-source-between b s j h = let f = s.few in let e = b.below (sources_at + j) (omega arith) in let l = s.each j h in omega arith
-
 -- ---- a pass
-
-pub flat_step_is : (w : List ℕ) (j a b c v : ℕ) → a ≡ there_at w (first_at + j) → b ≡ there_at w (second_at_lem + j) → c ≡ there_at w (third_at + j) → v ≡ form_word a b c → set w (gates_at + j) v ≡ flat_step j w
-flat_step_is w j a b c v e f g h = rw (h, e, f, g)
 
 -- the first k gates have their bits
 pub record Passing (u : List ℕ) (k : ℕ) (w : List ℕ) : Type 0 where
   pub between : OnlyBetween gates_at ins_at u w
   pub whole : w ≡ take_turns flat_step k 0 u
-
-pub passing_start : (u : List ℕ) → Passing u 0 u
-passing_start u = record { between = between_none gates_at ins_at u; whole = refl }
-
-pub passing_gate : (u w : List ℕ) (n k : ℕ) → Gates u n → k < n → Passing u k w → FlatGate w k
-passing_gate u w n k g h p = gate-between p.between (g.each k h)
 
 pub passing_next : (u w v : List ℕ) (n i k : ℕ) → Gates u n → i < n → k ≡ i + 1 → Passing u i w → v ≡ flat_step i w → Passing u k v
 passing_next u w v n i k g h q p e =
@@ -80,16 +55,6 @@ passing_next u w v n i k g h q p e =
     subst (λ (x : ℕ). Passing u x v) (sym q) (record { between = r.0; whole = r.1 })
 
 -- ---- the layout
-
-pub second_is : (e b p r : ℕ) → p ≡ chosen_word (eqb e 65525) zero_at b → r ≡ chosen_word (eqb e 65524) zero_at p → r ≡ second_for e b
-second_is e b p r f g = g ∙ ap (cond (eqb e 65524) zero_at) f
-
-pub third-is : (e a b p q r : ℕ) → p ≡ chosen_word (eqb e 65524) b a → q ≡ chosen_word (eqb e 65523) b p → r ≡ chosen_word (eqb e 65525) one_at q → r ≡ third_for e a b
-third-is e a b p q r f g h = h ∙ ap (cond (eqb e 65525) one_at) (g ∙ ap (cond (eqb e 65523) b) f)
-
-pub lay-is : (w : List ℕ) (j o x a b p q : ℕ) → o ≡ get_or w (order_at + j) 0 → x ≡ first_in w o → a ≡ input_word w x → b ≡ input_word w (o - 1) → p ≡ second_for (get_or w o 0) b → q ≡ third_for (get_or w o 0) a b
-    → set (set (set w (first_at + j) a) (second_at_lem + j) p) (third_at + j) q ≡ lay_at w j (get_or w (order_at + j) 0)
-lay-is w j o x a b p q e f g h k l = rw (l, k, g, h, f, e)
 
 -- the places that a gate reads are those in u
 module _ (u w : List ℕ) (b : OnlyBetween first_at gates_at u w) (o : ℕ) (l : Looks u o) where
@@ -144,38 +109,8 @@ module _ (w : List ℕ) (j a p q : ℕ) (few : j < flat_most) (size : memory_siz
   pub stored_other : (i : ℕ) → (i ≡ first_at + j → ⊥) → (i ≡ second_at_lem + j → ⊥) → (i ≡ third_at + j → ⊥) → get_or stored i 0 ≡ get_or w i 0
   stored_other i c d e = elsewhere i d e ∙ set_other w (first_at + j) i a c
 
-pub laid-start : (u : List ℕ) → GatesLaid u 0 u
-laid-start u = record { between = between_none first_at gates_at u; first = λ j h. absurd (omega arith); second = λ j h. absurd (omega arith); third = λ j h. absurd (omega arith) }
-
 pub order_same : (u w : List ℕ) (n j : ℕ) → OnlyBetween first_at gates_at u w → Ordered u n → j < n → get_or w (order_at + j) 0 ≡ get_or u (order_at + j) 0
 order_same u w n j b r h = let f = r.few in b.below (order_at + j) (omega arith)
-
--- the order looks as it did
-pub laid-looks : (u w : List ℕ) (n j : ℕ) → OnlyBetween first_at gates_at u w → Ordered u n → j < n → Looks w (get_or w (order_at + j) 0)
-laid-looks u w n j b r h =
-    let o = get_or u (order_at + j) 0 in
-    let l = r.looks j h in
-    let e = entry-laid u w b o l in
-    let lo = l.low in
-    let s = b.size in
-    let z = l.size in
-    let k = l.kind in
-    let f = first-laid u w b o l in
-    let fl = first_low u o lo in
-    let x = b.below (first_in u o) (omega arith) in
-    let xf = ap (λ (y : ℕ). get_or w y 0) f in
-    let y = b.below (o - 1) (omega arith) in
-    let lf = l.first in
-    let ll = l.last in
-    subst (λ (x : ℕ). Looks w x) (sym (order_same u w n j b r h)) (record {
-      size = omega arith;
-      low = lo;
-      some = l.some;
-      kind = omega arith;
-      two = λ t. l.two (omega arith);
-      first = omega arith;
-      last = omega arith;
-    })
 
 -- one gate more
 pub laid_next : (u w v : List ℕ) (n j : ℕ) → Ordered u n → n ≤ flat_most → j < n → GatesLaid u j w → v ≡ lay_at w j (get_or w (order_at + j) 0) → GatesLaid u (j + 1) v
@@ -219,9 +154,6 @@ laid_next u w v n j r few h g e = subst (λ (x : List ℕ). GatesLaid u (j + 1) 
     size = let s = g.between.size in let z = r.size in omega arith
 
 -- ---- the registers' places
-
-pub sources-start : (u : List ℕ) → SourcesLaid u 0 u
-sources-start u = record { between = between_none sources_at next_at u; source = λ j h. absurd (omega arith) }
 
 module _ (u w : List ℕ) (n j : ℕ) (r : Registers u n) (few : n ≤ flat_most) (h : j < n) (g : SourcesLaid u j w) where
   abbrev pub output : ℕ
@@ -275,15 +207,6 @@ pub record Pinning (u : List ℕ) (k : ℕ) (w : List ℕ) (i o : ℕ) : Type 0 
   pub out_count : o ≡ out_pin_count u k
   pub few_in : i ≤ k
   pub few_out : o ≤ k
-
-pub pinning_start : (u : List ℕ) → Pinning u 0 u 0 0
-pinning_start u = record {
-  laid = record { between = between_none ins_at zero_at u; ins = λ k h e. absurd (omega arith); outs = λ k h e. absurd (omega arith) };
-  in_count = refl;
-  out_count = refl;
-  few_in = omega arith;
-  few_out = omega arith;
-}
 
 module _ (u w : List ℕ) (n k i o c y : ℕ) (p : PinsLow u n) (h : k < n) (l : Pinning u k w i o) (q : c ≡ get_or w (pins_at + k) 0) (v : y ≡ get_or w (bits_at + c / 2) 0) where
   pin_same : c ≡ get_or u (pins_at + k) 0

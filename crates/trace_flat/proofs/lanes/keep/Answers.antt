@@ -1,14 +1,9 @@
 -- The invariant: what the first j registers show is kept. Assumes nothing.
-use native.Mathlib.Omega.{arith}
-use mathlib.Core.Path.{◌≡◌, refl, subst}
-use Prim.Native.Nat.{ℕ}
+use mathlib.Core.Path.{refl}
 use lib.ListN.{length-set}
-use Rattle.trace_flat.specs.FlatTicks.{WrittenBy, flat_keep}
+use Rattle.trace_flat.specs.FlatTicks.{flat_keep}
 use Rattle.trace_flat.proofs.CellLaws.{written_next}
 use Rattle.trace_flat.proofs.lanes.keep.Goals as goal
-
-pub loop-j-init : goal.loop-j-init
-loop-j-init c = record { size = refl; whole = refl }
 
 pub loop-j-preserved : goal.loop-j-preserved
 loop-j-preserved c =
@@ -19,9 +14,3 @@ loop-j-preserved c =
     let q = c.requires.0 in
     let rm = c.requires.1.1 in
     written_next (flat_keep c.args.work.now) l.j c.args.state.now l.state _ l.invariant (length-set l.state l.j _) refl
-
-pub returns : goal.returns
-returns c =
-    let l = c.loop-j in
-    let e : l.j ≡ c.args.regs = omega arith in
-    subst (λ (k : ℕ). WrittenBy (flat_keep c.args.work.now) k c.args.state.now l.state) e l.invariant

@@ -32,39 +32,6 @@ lay_pins-requires c =
     let l = c.requires in
     pins_laid c.lay_gates.ensures.between c.lay_registers.ensures.between (pins_within (within_then (within_then c.place.ensures.within c.place_listed.ensures.within) c.place_listed-2.ensures.within) l.pins)
 
-pub begin-requires : goal.begin-requires
-begin-requires c =
-    let l = c.requires in
-    let z = l.size in
-    let a = (within_then (within_then c.place.ensures.within c.place_listed.ensures.within) c.place_listed-2.ensures.within).size in
-    let b = c.lay_gates.ensures.between.size in
-    let d = c.lay_registers.ensures.between.size in
-    let e = c.lay_pins.ensures.between.size in
-    (omega arith, l.few_terminals)
-
-pub darken-requires : goal.darken-requires
-darken-requires c =
-    let l = c.requires in
-    let z = l.size in
-    let a = (within_then (within_then c.place.ensures.within c.place_listed.ensures.within) c.place_listed-2.ensures.within).size in
-    let b = c.lay_gates.ensures.between.size in
-    let d = c.lay_registers.ensures.between.size in
-    let e = c.lay_pins.ensures.between.size in
-    let f = c.begin.ensures.within.size in
-    (omega arith, l.few_gates)
-
-pub set_constants-requires : goal.set_constants-requires
-set_constants-requires c =
-    let l = c.requires in
-    let z = l.size in
-    let a = (within_then (within_then c.place.ensures.within c.place_listed.ensures.within) c.place_listed-2.ensures.within).size in
-    let b = c.lay_gates.ensures.between.size in
-    let d = c.lay_registers.ensures.between.size in
-    let e = c.lay_pins.ensures.between.size in
-    let f = c.begin.ensures.within.size in
-    let g = c.darken.ensures.between.size in
-    omega arith
-
 pub returns : goal.returns
 returns c =
     let a = c.args in

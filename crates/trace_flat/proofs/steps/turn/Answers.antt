@@ -2,14 +2,10 @@
 use native.Mathlib.Omega.{arith}
 use mathlib.Core.Path.{refl}
 use Prim.Native.Nat.{◌+◌}
-use Rattle.trace_steps.proofs.Laws.{turns-all}
 use Rattle.trace_flat.specs.Flat.{flat_turn, shown_at}
-use Rattle.trace_flat.proofs.Laws.{between_none, between-set, stretch-step}
+use Rattle.trace_flat.proofs.Laws.{between-set, stretch-step}
 use Rattle.trace_steps.specs.Map.{order_at}
 use Rattle.trace_flat.proofs.steps.turn.Goals as goal
-
-pub loop-j-init : goal.loop-j-init
-loop-j-init c = (between_none _ _ _, refl)
 
 pub loop-j-preserved : goal.loop-j-preserved
 loop-j-preserved c =
@@ -17,9 +13,3 @@ loop-j-preserved c =
     let z = l.invariant.0.size in
     let few = c.requires.1 in
     stretch-step shown_at order_at flat_turn c.args.work.now l.work _ l.j l.invariant.0 l.invariant.1 (refl) (between-set shown_at order_at l.work (shown_at + l.j) _ (omega arith) (omega arith))
-
-pub returns : goal.returns
-returns c =
-    let l = c.loop-j in
-    let a = c.args in
-    record { between = l.invariant.0; whole = turns-all flat_turn l.j a.regs a.work.now l.work (omega arith) l.invariant.1 }
