@@ -104,6 +104,7 @@ fn same(work: &[u16], t: u16, r: Record) -> bool
 }
 
 // Where a record stands in the table, or where it would come. It stands behind its sides: so all products of a row are found in one pass.
+#[inline(always)]
 fn number_in(work: &[u16], r: Record) -> u16
     requires { Listable work.now r }
     ensures { Searched work.now r result }
@@ -142,7 +143,9 @@ fn store(work: &mut [u16], k: u16, r: Record, bits: u16)
     work[TYPE_COUNT] = k + 1;
 }
 
-// The number of a record, put at the table's end where it is new: 35, then 34, at a place.
+// The number of a record, put at the table's end where it is new: 35, then 34, at a place. Inlined, with the search, so that `row` looks for
+// products of the bit alone: that halves what a row of 128 bits takes.
+#[inline(always)]
 pub fn listed(work: &mut [u16], r: Record, place: u16) -> Result<u16, Refusal>
     requires { Listable work.old r }
     ensures { ListedSays work.old r place result work.new }
