@@ -212,6 +212,16 @@ gate-place s n r at o h e g f = (element-inj (f.found_is ∙ ap (item_at s) e �
     element-inj q = cc
 
 -- what stands there is a part
+pub part-known : (s : List ℕ) (n r : ℕ) → OfParts s n → r < n → NotPart (item_at s (4 * r)) → ⊥
+part-known s n r o h v = at_part (net_here s).elements r o.parts (let c = o.count in omega arith) (subst NotPart (part_at_place s n r o h).0 v)
+  where
+    at_part : (es : List Element) (r : ℕ) → All PartOnly es → r < length es → NotPart (item (element (get_or es r (point 0)))) → ⊥
+    at_part [] r o h v = omega arith
+    at_part (point i ∷ es) r o h v = o.0
+    at_part (part p i ∷ es) zero o h v = v
+    at_part (part p i ∷ es) (suc r) o h v = at_part es r o.1 (let l : suc r < suc (length es) = h in omega arith) v
+
+-- what stands there is a part
 pub part_stands : (s : List ℕ) (at : ℕ) → PartHere s at → (p : ℕ) × (i : ℕ) × (item_at s at ≡ item (element (part p i)))
 part_stands s at h = by (get_or (net_here s).elements h.r (point 0)) (all-at PartOnly (net_here s).elements h.r (point 0) h.of.parts (omega (arith, h.of.count, h.low))) (ap (item_at s) h.there ∙ (part_at_place s h.n h.r h.of h.low).0)
   where

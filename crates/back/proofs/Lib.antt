@@ -1,5 +1,6 @@
 pub mod RowLaws
 pub mod GateLaws
+pub mod RecordLaws
 pub mod SourceLaws
 pub mod TermLaws
 pub mod WriteLaws

@@ -2,7 +2,7 @@
 use Prim.Native.Nat.{ℕ, zero, suc, ◌+◌, ◌<◌, ◌≤◌}
 use mathlib.Core.Path.{◌≡◌, refl, sym, ap, ap₂, ◌∙◌}
 use mathlib.Core.Bool.{Bool, true, false, cond, ◌||◌}
-use mathlib.Core.List.{List, [], ◌∷◌}
+use mathlib.Core.List.{List, [], ◌∷◌, ◌++◌}
 use native.Mathlib.Omega.{arith}
 use native.Mathlib.Numerals.{add-one}
 use lib.Dec.{eqb}
@@ -15,7 +15,7 @@ use Rattle.calculus.specs.Lean.{driver}
 use Rattle.calculus.specs.Inputs.{has_wire}
 use Rattle.calculus.specs.Record.{All}
 use Rattle.laws.proofs.Tests.{by_eqb}
-use Rattle.back_calculus.specs.Back.{undriven, output, part_before, sources, undrivens, gates_from, open_ins}
+use Rattle.back_calculus.specs.Back.{DrivenBy, undriven, output, part_before, sources, undrivens, gates_from, open_ins}
 use Rattle.back.specs.Gates.{net_here, AcceptedNet, input_total}
 use Rattle.back.proofs.GateLaws.{from_low}
 
@@ -43,6 +43,20 @@ module _ (s : List ℕ) (a : AcceptedNet s) (i j : ℕ) where
 -- ---- how many are undriven
 
 module _ (m : Net) where
+  pub sources_split : (k i j : ℕ) → sources m (suc k) i j ≡ sources m 1 i j ++ sources m k (i + 1) (j + undrivens (sources m 1 i j))
+  sources_split k i j = by (has_wire m.wires i)
+    where
+      by : (b : Bool) → cond b (output (part_before m.elements (driver m.wires i 0)) ∷ sources m k (i + 1) j) (undriven j ∷ sources m k (i + 1) (suc j))
+          ≡ cond b (output (part_before m.elements (driver m.wires i 0)) ∷ []) (undriven j ∷ [])
+          ++ sources m k (i + 1) (j + undrivens (cond b (output (part_before m.elements (driver m.wires i 0)) ∷ []) (undriven j ∷ [])))
+      by true = let z : j + 0 ≡ j = omega arith in rw z
+      by false = let z : j + 1 ≡ suc j = omega arith in rw z
+
+  pub undrivens-append : (ss rs : List DrivenBy) → undrivens (ss ++ rs) ≡ undrivens ss + undrivens rs
+  undrivens-append [] rs = omega arith
+  undrivens-append (undriven j ∷ ss) rs = omega (arith, undrivens-append ss rs)
+  undrivens-append (output q ∷ ss) rs = undrivens-append ss rs
+
   -- their number does not depend on where the count begins
   pub undrivens-any : (k i j l : ℕ) → undrivens (sources m k i j) ≡ undrivens (sources m k i l)
   undrivens-any zero i j l = refl
@@ -61,6 +75,10 @@ module _ (m : Net) where
       by : (b : Bool) → undrivens (sources m k (i + 1) j) ≤ k → undrivens (sources m k (i + 1) (suc j)) ≤ k → undrivens (cond b (output (part_before m.elements (driver m.wires i 0)) ∷ sources m k (i + 1) j) (undriven j ∷ sources m k (i + 1) (suc j))) ≤ suc k
       by true e f = omega arith
       by false e f = omega arith
+
+  pub undrivens_split : (k i : ℕ) → undrivens (sources m (suc k) i 0) ≡ undrivens (sources m 1 i 0) + undrivens (sources m k (i + 1) 0)
+  undrivens_split k i =
+      ap undrivens (sources_split k i 0) ∙ undrivens-append (sources m 1 i 0) _ ∙ ap (λ (x : ℕ). undrivens (sources m 1 i 0) + x) (undrivens-any k (i + 1) (0 + undrivens (sources m 1 i 0)) 0)
 
 -- ---- one part behind the other
 

@@ -1,6 +1,6 @@
 -- The variables, a part and all parts, as they are written one behind the other. Assumes nothing.
 use Prim.Native.Nat.{ℕ, suc, ◌+◌, ◌-◌, ◌*◌, ◌<◌, ◌≤◌}
-use mathlib.Core.Path.{◌≡◌, refl, sym, ap, subst, ◌∙◌}
+use mathlib.Core.Path.{◌≡◌, refl, sym, ap, ap₂, subst, ◌∙◌}
 use mathlib.Core.List.{List, [], ◌∷◌, ◌++◌, append-nil, append_assoc}
 use native.Mathlib.Omega.{arith}
 use native.Mathlib.Numerals.{add-one}
@@ -20,7 +20,7 @@ use Rattle.back.specs.Rows.{rows_up_to, application_row, pair_row, head_row, sou
 use Rattle.laws.proofs.Regions.{written-more, drop_past}
 use Rattle.back.proofs.RowLaws.{rows-length}
 use Rattle.back.proofs.TermLaws.{GateFull, tuple-bytes}
-use Rattle.back.proofs.SourceLaws.{source_open, source-wired, sources-length}
+use Rattle.back.proofs.SourceLaws.{source_open, source-wired, sources_split, undrivens-append, sources-length}
 
 -- ---- one variable
 
@@ -34,9 +34,26 @@ module _ (s : List ℕ) (a : AcceptedNet s) (k q i j : ℕ) where
 
 -- ---- those of a part
 
+rows_append : (k q : ℕ) (ss rs : List DrivenBy) → source_rows k q (ss ++ rs) ≡ source_rows k q ss ++ source_rows k q rs
+rows_append k q [] rs = refl
+rows_append k q (s ∷ ss) rs = rw (rows_append k q ss rs)
+
 source-length : (k q : ℕ) (ss : List DrivenBy) → length (source_rows k q ss) ≡ 2 * length ss
 source-length k q [] = refl
 source-length k q (s ∷ ss) = omega (arith, source-length k q ss)
+
+module _ (m : Net) (k q f j : ℕ) where
+  pub two-undriven : (one : ℕ) → one ≡ j + undrivens (sources m 1 f j) → one + undrivens (sources m 1 (f + 1) one) ≡ j + undrivens (sources m 2 f j)
+  two-undriven one e =
+      ap₂ ◌+◌ e (ap (λ (x : ℕ). undrivens (sources m 1 (f + 1) x)) e)
+      ∙ omega (arith, ap undrivens (sources_split m 1 f j), undrivens-append m (sources m 1 f j) (sources m 1 (f + 1) (j + undrivens (sources m 1 f j))))
+
+  pub two-written : (out o₁ o₂ : List ℕ) (at one : ℕ) → one ≡ j + undrivens (sources m 1 f j) → o₁ ≡ sets out at (source_rows k q (sources m 1 f j)) → o₂ ≡ sets o₁ (at + 2) (source_rows k q (sources m 1 (f + 1) one))
+      → o₂ ≡ sets out at (source_rows k q (sources m 2 f j))
+  two-written out o₁ o₂ at one e a b =
+      b ∙ ap₂ (λ (o : List ℕ) (x : ℕ). sets o (at + 2) (source_rows k q (sources m 1 (f + 1) x))) a e
+      ∙ written-more out (source_rows k q (sources m 1 f j)) (source_rows k q (sources m 1 (f + 1) (j + undrivens (sources m 1 f j)))) at (at + 2) (omega (arith, source-length k q (sources m 1 f j), sources-length m 1 f j))
+      ∙ ap (λ (bs : List ℕ). sets out at bs) (sym (rows_append k q (sources m 1 f j) (sources m 1 (f + 1) (j + undrivens (sources m 1 f j)))) ∙ ap (source_rows k q) (sym (sources_split m 1 f j)))
 
 -- ---- a part
 

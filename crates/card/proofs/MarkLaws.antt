@@ -269,6 +269,15 @@ pub record Cleaning (w : List ℕ) (end x low : ℕ) (u : List ℕ) : Type 0 whe
   pub found : low < 8192 → low < x
   pub so_far : LowSoFar w end x low
 
+pub cleaning_end : {w u : List ℕ} {end x low : ℕ} → x ≤ end → end ≤ x → Cleaning w end x low u → (low ≡ unread_from w end 0) × Cleaned w end u
+cleaning_end {w} {u} {end} {x} {low} g h c = (
+  elim (dec_le 8192 low) [
+    | yes l ↦ (let b = c.below in let z : low ≡ 8192 = omega arith in let e : end - x ≡ 0 = omega arith in z ∙ sym (ap (λ (b : Bool). cond b low 8192) (le-ltb low 8192 l)) ∙ ap (λ (n : ℕ). cond (ltb low 8192) low (unread_from w n x)) (sym e) ∙ c.so_far)
+    | no l ↦ sym (ap (λ (b : Bool). cond b low (unread_from w (end - x) x)) (lt-ltb low 8192 (omega arith))) ∙ c.so_far
+  ],
+  (let e : x ≡ end = omega arith in subst (λ (n : ℕ). Cleaned w n u) e c.clean),
+)
+
 -- the lower of two, where the first is x or none
 lower-is : (b : Bool) (x low : ℕ) → x < 8192 → low ≤ 8192 → (low < 8192 → low < x) → cond (ltb (cond b x 8192) low) (cond b x 8192) low ≡ cond (ltb low 8192) low (cond b x low)
 lower-is true x low l b f = elim (dec_le 8192 low) [

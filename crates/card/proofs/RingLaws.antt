@@ -1,11 +1,12 @@
 -- The search finds what the definition's test refuses. Assumes nothing.
 use Prim.Native.Nat.{ℕ, zero, suc, ◌+◌, ◌-◌, ◌≤◌, ◌<◌}
-use mathlib.Core.Path.{◌≡◌, refl, ap, ◌∙◌}
+use mathlib.Core.Path.{◌≡◌, refl, sym, ap, ◌∙◌, subst}
 use mathlib.Core.Bool.{Bool, true, false, cond, not}
 use mathlib.Core.List.{List, [], ◌∷◌, ◌++◌, map}
 use native.Mathlib.Omega.{arith}
 use native.Mathlib.Decide.{ℕ_discrete, dec_le}
-use lib.Dec.{eqb}
+use lib.Dec.{T, eqb}
+use lib.ListN.{get_or}
 use borrow.Author.Tests.{ne_eqb, eq-eqb}
 use Rattle.std.specs.Prelude.{Option, Some}
 use Rattle.calculus.specs.Answer.{Answer}
@@ -13,10 +14,11 @@ use Rattle.calculus.specs.Net.{Interface, Element, point}
 use Rattle.calculus.specs.Lean.{is_pin}
 use Rattle.export_calculus.specs.Card.{need_all, no_ring, input_place}
 use Rattle.memory.specs.Map.{roots_at, region, elements_from, terminal_of}
+use Rattle.netlist.specs.Elements.{output_of}
 use Rattle.lean.specs.Table.{entry}
 use Rattle.lean.specs.Layout.{lean_pins_at, kinds_from, left_out, first_terminal, element_at, row_in, lean_in, LeanReady}
 use Rattle.lean.proofs.MakeLaws.{element_input, element_left, element_here}
-use Rattle.card.specs.Rings.{ring_at, RingFree, lowest_from, answer_of}
+use Rattle.card.specs.Rings.{ring_by, ring_at, RingFree, lowest_from, answer_of}
 
 -- one more is done
 pub lowest-next : (w : List ℕ) (end x : ℕ) → x < end → lowest_from w (end - x) x ≡ cond (ring_at w x) (Some (x - 1)) (lowest_from w (end - (x + 1)) (x + 1))
@@ -35,6 +37,19 @@ lowest-block w end x to a b r =
     let e : x + (to - x) ≡ to = omega arith in
     lowest-skip w end (to - x) x (omega arith) (λ o g h. r o g (omega arith)) ∙ ap (λ (y : ℕ). lowest_from w (end - y) y) e
 
+-- a point's output has its input before it
+pub point_up : (w : List ℕ) (end pins : ℕ) → LeanReady w end pins → (x : ℕ) → x < end → entry w x ≡ kinds_from + 7 → 1 ≤ x
+point_up w end pins r x h z =
+    let k : entry w x - kinds_from ≡ 7 = omega arith in
+    let u = r.outputs x h (omega arith) (omega arith) in
+    subst (λ (y : ℕ). output_of y 0 ≤ x) k u
+
+pub ring_up : (w : List ℕ) (end pins : ℕ) → LeanReady w end pins → (x : ℕ) → x < end → ring_at w x ≡ true → 1 ≤ x
+ring_up w end pins r x h e = elim (ℕ_discrete (entry w x) (kinds_from + 7)) [
+  | yes z ↦ point_up w end pins r x h z
+  | no d ↦ absurd (subst T (rw (ne_eqb (entry w x) (kinds_from + 7) d) at (sym e)) tt)
+]
+
 pub no_point_lem : (w : List ℕ) (x : ℕ) → (entry w x ≡ kinds_from + 7 → ⊥) → false ≡ ring_at w x
 no_point_lem w x d = rw (ne_eqb (entry w x) (kinds_from + 7) d)
 
@@ -42,6 +57,27 @@ pub by_wire : (w : List ℕ) (x : ℕ) → entry w x ≡ kinds_from + 7 → not 
 by_wire w x e = rw (eq-eqb (entry w x) (kinds_from + 7) e)
 
 -- ---- how many there are in a block
+
+none-counted : (b : Bool) → ◌≡◌ {A = ℕ} (cond b 1 0) 0 → b ≡ false
+none-counted true e = absurd (omega arith)
+none-counted false e = refl
+
+-- the terminal before x tells as much as its input
+ring_none : (w : List ℕ) (end pins : ℕ) → LeanReady w end pins → (x : ℕ) → x < end → ◌≡◌ {A = ℕ} (cond (ring_by (entry w x) (get_or w (roots_at + x - 1) 0)) 1 0) 0 → ring_at w x ≡ false
+ring_none w end pins r x h e = elim (ℕ_discrete (entry w x) (kinds_from + 7)) [
+  | yes z ↦ (let l = point_up w end pins r x h z in
+      let i : roots_at + x - 1 ≡ roots_at + (x - 1) = omega arith in
+      subst (λ (j : ℕ). ring_by (entry w x) (get_or w j 0) ≡ false) i (none-counted (ring_by (entry w x) (get_or w (roots_at + x - 1) 0)) e))
+  | no d ↦ sym (no_point_lem w x d)
+]
+
+pub ringless_more : (w : List ℕ) (end pins : ℕ) → LeanReady w end pins → (from x sum one : ℕ) → x < end → (sum ≡ 0 → RingFree w from x)
+    → one ≡ cond (ring_by (entry w x) (get_or w (roots_at + x - 1) 0)) 1 0 → sum + one ≡ 0 → RingFree w from (x + 1)
+ringless_more w end pins r from x sum one h before e z o a b =
+    elim (ℕ_discrete o x) [
+      | yes q ↦ (let n : one ≡ 0 = omega arith in ap (ring_at w) q ∙ ring_none w end pins r x h (sym e ∙ n))
+      | no d ↦ before (omega arith) o a (omega arith)
+    ]
 
 module _ (w : List ℕ) (end pins : ℕ) (r : LeanReady w end pins) (number : ℕ) where
   abbrev ps : Interface

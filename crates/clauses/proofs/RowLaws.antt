@@ -1,9 +1,10 @@
 -- Rows: stores of the eight numbers, and a row read from a head that the grammar has read. Assumes nothing.
-use Prim.Native.Nat.{ℕ, suc, ◌+◌, ◌*◌, ◌<◌}
-use mathlib.Core.Path.{◌≡◌, sym, ap, ◌∙◌}
+use Prim.Native.Nat.{ℕ, suc, ◌+◌, ◌*◌, ◌-◌, ◌<◌}
+use mathlib.Core.Path.{◌≡◌, sym, ap, subst, ◌∙◌}
 use mathlib.Core.Bool.{Bool, true, false, cond}
 use mathlib.Core.List.{List, [], ◌∷◌}
 use native.Mathlib.Omega.{arith}
+use native.Mathlib.Decide.{dec_le}
 use native.Mathlib.Nat.{mod-lt, zero-lt-suc}
 use lib.Dec.{leb}
 use borrow.Author.Tests.{le-leb, lt-leb}
@@ -11,7 +12,7 @@ use lib.ListN.{set}
 use lib.Seq.{sets}
 use Rattle.words.specs.NameKeys.{key_step, name_key_from, name_key}
 use Rattle.clauses.specs.declared.rows.Row.{Row}
-use Rattle.clauses.specs.Rows.{key_for}
+use Rattle.clauses.specs.Rows.{key_for, row_in, KeyFrom, KeyBelow}
 
 pub eight_stores : (l : List ℕ) (c n₀ n₁ n₂ n₃ n₄ n₅ n₆ n₇ : ℕ) → set (set (set (set (set (set (set (set l c n₀) (c + 1) n₁) (c + 2) n₂) (c + 3) n₃) (c + 4) n₄) (c + 5) n₅) (c + 6) n₆) (c + 7) n₇ ≡ sets l c (n₀ ∷ n₁ ∷ n₂ ∷ n₃ ∷ n₄ ∷ n₅ ∷ n₆ ∷ n₇ ∷ [])
 eight_stores l c n₀ n₁ n₂ n₃ n₄ n₅ n₆ n₇ =
@@ -56,3 +57,18 @@ pub key_short : (sort : Bool) (n : List ℕ) → key_for sort n < 65536
 unfolding key_for
 key_short true n = omega (arith, key_less n)
 key_short false n = omega (arith, key_less n)
+
+-- ---- the next row with a key
+
+pub from_more : (work : List ℕ) (key k n i : ℕ) → KeyFrom work key k n i → i < n → ¬ ((row_in work i).key ≡ key) → KeyFrom work key k n (i + 1)
+from_more work key k n i f h d = record {
+  least = omega (arith, f.least);
+  most = omega arith;
+  others = λ j a b. elim (dec_le (suc j) i) [ yes l ↦ f.others j a l | no g ↦ subst (λ (x : ℕ). ¬ ((row_in work x).key ≡ key)) (omega (arith, g, b)) d ];
+}
+
+pub below_more : (work : List ℕ) (key k i : ℕ) → KeyBelow work key k i → 0 < i → ¬ ((row_in work (i - 1)).key ≡ key) → KeyBelow work key k (i - 1)
+below_more work key k i f h d = record {
+  most = omega (arith, f.most);
+  others = λ j a b. elim (dec_le i j) [ yes l ↦ f.others j l b | no g ↦ subst (λ (x : ℕ). ¬ ((row_in work x).key ≡ key)) (omega (arith, g, a)) d ];
+}

@@ -23,6 +23,12 @@ eqb_sym a b = elim (ℕ_discrete a b) [ yes e ↦ eq-eqb a b e ∙ sym (eq-eqb b
 
 -- ---- the tests that the code makes
 
+pub one_of : (a b c : ℕ) → c ≡ a → true ≡ (eqb a c || eqb b c)
+one_of a b c e = sym (ap (λ (x : Bool). x || eqb b c) (eq-eqb a c (sym e)))
+
+pub other_of : (a b c : ℕ) → ¬ (c ≡ a) → eqb c b ≡ (eqb a c || eqb b c)
+other_of a b c e = eqb_sym c b ∙ sym (ap (λ (x : Bool). x || eqb b c) (ne_eqb a c (λ q. e (sym q))))
+
 module _ (c deep : ℕ) where
   abbrev depth_of : Bool → Bool → ℕ
   depth_of o k = cond o (deep + 1) (cond k (deep - 1) deep)

@@ -20,6 +20,10 @@ pub both_steps : (m : Answer (List Word)) (f g : Step) → ((m >>= f) >>= g) ≡
 both_steps (good ws) f g = refl
 both_steps (refused why) f g = refl
 
+pub three_steps : (m : Answer (List Word)) (f g h : Step) → ((m >>= λ us. f us >>= g) >>= h) ≡ (m >>= λ us. f us >>= λ vs. g vs >>= h)
+three_steps (good ws) f g h = both_steps (f ws) g h
+three_steps (refused why) f g h = refl
+
 -- a loop whose last round ended at t: rounds that are enough for the words that are left
 pub record Loops (text : List ℕ) (go : ℕ → Step) (fin : Step) (total : Answer (List Word)) (most : ℕ) (t : End) : Type 0 where
   pub step : Answer (List Word)
@@ -30,9 +34,22 @@ pub record Loops (text : List ℕ) (go : ℕ → Step) (fin : Step) (total : Ans
   pub enough : bound ≤ rounds
   pub within : bound ≤ most
 
+-- the words that are left; none where the last round was refused
+abbrev pub left_words : List ℕ → End → ℕ
+left_words text (Ok p) = suc (length (from text p))
+left_words text (Err why) = 0
+
+pub left_less : (text : List ℕ) (b : ℕ) (m : Answer (List Word)) (t t' : End) (p : ℕ) → t ≡ Ok p → Ends text b m t' → b ≤ length (from text p) → left_words text t' < left_words text t
+left_less text b m t (Ok q) p z e h = rw z (omega (arith, e.fewer))
+left_less text b m t (Err why) p z e h = rw z (omega arith)
+
 -- a loop before a round: it goes on from any end that the round may have
 abbrev pub Turning : List ℕ → (ℕ → Step) → Step → Answer (List Word) → ℕ → ℕ → Answer (List Word) → Type 0
 Turning text go fin total most bound round = (t : End) → Ends text bound round t → Loops text go fin total most t
+
+-- .. whose next round reads what is left of the whole: where it ends the whole does
+abbrev pub Inner : List ℕ → ℕ → Answer (List Word) → ℕ → Answer (List Word) → Type 0
+Inner text most total bound round = (t : End) → Ends text bound round t → Ends text most total t
 
 module _ (text : List ℕ) (go : ℕ → Step) (test : List Word → Bool) (turn : Step) (turns : (r : ℕ) (us : List Word) → go (suc r) us ≡ cond (test us) (turn us >>= go r) (good us))
     (fin : Step) (total : Answer (List Word)) (most : ℕ) where

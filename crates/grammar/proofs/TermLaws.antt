@@ -7,7 +7,7 @@ use native.Mathlib.Omega.{arith}
 use lib.ListN.{length}
 use borrow.Author.Tests.{eq-eqb, ne_eqb}
 use Rattle.calculus.specs.Answer.{Answer, good, ◌>>=◌, refuse, need}
-use Rattle.notation_calculus.specs.Words.{Sign, sign_code, fun, fix, lets, endRound, Token, sign, part, number, name, Word}
+use Rattle.notation_calculus.specs.Words.{Sign, sign_code, fun, fix, lets, within, endRound, equals, colon, dot, Token, sign, part, number, name, Word}
 use Rattle.notation_calculus.specs.Grammar.{peek, behind, place, is, expect}
 use Rattle.words.specs.Tables.{token_code}
 use Rattle.words.specs.Next.{Said}
@@ -17,10 +17,10 @@ use Rattle.answers.specs.declared.Refusal.{Refusal as Why}
 use Rattle.answers.specs.declared.Reason.TheVariants.{TextLimit}
 use Rattle.answers.specs.Refusals.{refusal_at}
 use Rattle.grammar.specs.Ends.{End, Ends, EndsIn, type_step, term_step}
-use Rattle.grammar.specs.Skips.{Step, expect_code, name_end, use_end, trees_end, tuple_end, atom_by, atom_end, atoms_end, spine_end, one_end, lists_end, binds_end, bound_end, let_body_end}
+use Rattle.grammar.specs.Skips.{Step, expect_code, name_end, use_end, trees_end, tuple_end, atom_by, atom_end, atoms_end, spine_end, one_end, lists_end, binds_end, bound_end, let_body_end, bound_type_end, let_value_end}
 use Rattle.grammar.proofs.EndLaws.{sign_not, expect-code, is_yes, is_no, ends-word, ends_bad, ends-due, ends_as, ends-stop, step_is}
 use Rattle.grammar.proofs.StepLaws.{DueAt, code_is, code_not}
-use Rattle.grammar.proofs.LoopLaws.{Loops}
+use Rattle.grammar.proofs.LoopLaws.{three_steps, Loops, Inner}
 use Rattle.grammar.proofs.NameLaws.{loop_from}
 use Rattle.grammar.proofs.SkipLaws.{term_by_lem, term_none}
 
@@ -51,11 +51,26 @@ module _ (text : List ℕ) (most : ℕ) (total : Answer (List Word)) where
   pub along_expect : (s : Sign) (g : Step) (p : ℕ) (t' : End) → Along text most total (λ us. expect s us >>= g) (Ok p) → Ends text (length (from text p)) (expect_code (sign_code s) (from text p)) t' → Along text most total g t'
   along_expect s g p t' l d = along_next (λ us. expect s us) g p t' l (ends_as text _ _ _ _ t' (omega arith) (expect-code s (from text p)) d)
 
+  -- .. which is two: up to a body, and the body
+  pub along_front : (h f g : Step) (p : ℕ) (t' : End) → h (from text p) ≡ (f (from text p) >>= g) → Along text most total h (Ok p) → Ends text (length (from text p)) (f (from text p)) t' → Along text most total g t'
+  along_front h f g p t' e l d = record { step = f (from text p); bound = length (from text p); total_is = step_is text _ _ _ h p l.total_is l.ends ∙ e; ends = d; within = omega (arith, l.ends.fewer, l.within) }
+
   pub along_last : (f : Step) (p : ℕ) (r : End) → Along text most total f (Ok p) → Ends text (length (from text p)) (f (from text p)) r → Ends text most total r
   along_last f p r l d = ends_as text _ _ _ _ r (omega (arith, l.ends.fewer, l.within)) (step_is text _ _ _ f p l.total_is l.ends) d
 
   pub along_lexed : (go : Step) (p : ℕ) → Along text most total go (Ok p) → Lexed text p
   along_lexed go p l = l.ends.lexed
+
+-- a loop's round that is over: the next one reads the rest
+pub inner_next : (text : List ℕ) (most bound : ℕ) (whole total : Answer (List Word)) (go : Step) (p : ℕ) → Inner text most whole bound total → Along text bound total go (Ok p) → Inner text most whole (length (from text p)) (go (from text p))
+inner_next text most bound whole total go p i l t d = i t (along_last text bound total go p t l d)
+
+-- what stands before a body, and the body
+pub bound_apart : (read readType : Step) (ws : List Word) → bound_end read readType ws ≡ (bound_type_end readType ws >>= read)
+bound_apart read readType ws = sym (three_steps (expect colon ws) readType (λ vs. expect dot vs) read)
+
+pub let_apart : (read : Step) (ws : List Word) → let_body_end read ws ≡ (let_value_end read ws >>= read)
+let_apart read ws = sym (three_steps (expect equals ws) read (λ vs. expect within vs) read)
 
 -- ---- atoms by the token
 
@@ -149,6 +164,10 @@ module _ (text : List ℕ) (at more : ℕ) (w : Said) (s : Stands text at w) whe
       within = omega (arith, (next 0 e).fewer);
     }
 
+    -- .. up to the body
+    pub fun-front : w.code ≡ 1 → (x : ℕ) → EndsIn text w.end (binds_end (lists_end more)) (Ok x) → (t : End) → Ends text (length (from text x)) (bound_type_end (type_step (more - 1) false) (from text x)) t → Along text (length words) (term_step more words) (term_step (more - 1)) t
+    fun-front e x d t u = along_front text (length words) (term_step more words) bound (bound_type_end (type_step (more - 1) false)) (term_step (more - 1)) x t (bound_apart (term_step (more - 1)) (type_step (more - 1) false) (from text x)) (term-fun e (Ok x) d) u
+
     module _ (a : ¬ (w.code ≡ 1)) where
       pub term-fix : w.code ≡ 2 → (t : End) → Ends text (length (from text w.end)) (name_end (from text w.end)) t → Along text (length words) (term_step more words) bound t
       term-fix e t d = record {
@@ -159,6 +178,9 @@ module _ (text : List ℕ) (at more : ℕ) (w : Said) (s : Stands text at w) whe
         within = omega (arith, (next 1 e).fewer);
       }
 
+      pub fix-front : w.code ≡ 2 → (x : ℕ) → Ends text (length (from text w.end)) (name_end (from text w.end)) (Ok x) → (t : End) → Ends text (length (from text x)) (bound_type_end (type_step (more - 1) false) (from text x)) t → Along text (length words) (term_step more words) (term_step (more - 1)) t
+      fix-front e x d t u = along_front text (length words) (term_step more words) bound (bound_type_end (type_step (more - 1) false)) (term_step (more - 1)) x t (bound_apart (term_step (more - 1)) (type_step (more - 1) false) (from text x)) (term-fix e (Ok x) d) u
+
       module _ (b : ¬ (w.code ≡ 2)) where
         pub term-let : w.code ≡ 3 → (t : End) → Ends text (length (from text w.end)) (one_end (lists_end more) (from text w.end)) t → Along text (length words) (term_step more words) body t
         term-let e t d = record {
@@ -168,6 +190,9 @@ module _ (text : List ℕ) (at more : ℕ) (w : Said) (s : Stands text at w) whe
           ends = d;
           within = omega (arith, (next 2 e).fewer);
         }
+
+        pub let-front : w.code ≡ 3 → (x : ℕ) → Ends text (length (from text w.end)) (one_end (lists_end more) (from text w.end)) (Ok x) → (t : End) → Ends text (length (from text x)) (let_value_end (term_step (more - 1)) (from text x)) t → Along text (length words) (term_step more words) (term_step (more - 1)) t
+        let-front e x d t u = along_front text (length words) (term_step more words) body (let_value_end (term_step (more - 1))) (term_step (more - 1)) x t (let_apart (term_step (more - 1)) (from text x)) (term-let e (Ok x) d) u
 
         pub term-spine : ¬ (w.code ≡ 3) → (r : End) → Ends text (length words) spine r → Ends text (length words) (term_step more words) r
         term-spine e r d = ends_as text _ _ _ _ r (omega arith) (level-is false false false (is_no text at w s fun a) (is_no text at w s fix b) (is_no text at w s lets e)) d

@@ -138,6 +138,13 @@ bound_end read readType ws = expect colon ws >>= λ us. readType us >>= λ vs. e
 abbrev pub let_body_end : Step → Step
 let_body_end read ws = expect equals ws >>= λ us. read us >>= λ vs. expect within vs >>= λ xs. read xs
 
+-- .. up to the body
+abbrev pub bound_type_end : Step → Step
+bound_type_end readType ws = expect colon ws >>= λ us. readType us >>= λ vs. expect dot vs
+
+abbrev pub let_value_end : Step → Step
+let_value_end read ws = expect equals ws >>= λ us. read us >>= λ vs. expect within vs
+
 -- a list of names, and the sign of a code
 abbrev pub names_list : ℕ → ℕ → Step
 names_list closes rounds ws = list_end name_end rounds ws >>= λ us. expect_code closes us

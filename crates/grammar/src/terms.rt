@@ -2,7 +2,7 @@
 ghost use Rattle.std.specs.Prelude.{false, length};
 ghost use Rattle.words.specs.Lexed.{from, Lexed};
 ghost use Rattle.grammar.specs.Ends.{Ends, EndsIn, type_step, term_step, WordThere};
-ghost use Rattle.grammar.specs.Skips.{tuple_end, atom_end, spine_end, bound_end, let_body_end};
+ghost use Rattle.grammar.specs.Skips.{tuple_end, atom_end, spine_end, bound_type_end, let_value_end};
 
 use crate::{heads, names, steps, types};
 use answers::{Reason, Refusal};
@@ -27,7 +27,7 @@ const DOT: u8 = 16;
 
 // Behind an opening parenthesis: terms with commas between, and the closing one. Not inlined, so that `atom_end` takes no stack at each level.
 #[inline(never)]
-#[cycle(atom_end_bound_end_let_body_end_spine_end_term_end_tuple_end)]
+#[cycle(atom_end_let_value_end_spine_end_term_end_tuple_end)]
 fn tuple_end(text: &[u8], at: usize, more: usize) -> Result<usize, Refusal>
     requires { Lexed text.now at }
     ensures { EndsIn text.now at (tuple_end (term_step more)) result }
@@ -45,7 +45,7 @@ fn tuple_end(text: &[u8], at: usize, more: usize) -> Result<usize, Refusal>
 
 // By the word at an offset: a name that is used, a part, or terms in parentheses. A word is passed on by its fields, which take no stack at each level.
 // Its kind is a number, here and in `spine_end`, as in `words::Word`: `WordThere` and the grammar's definitions compare it with `token_code`.
-#[cycle(atom_end_bound_end_let_body_end_spine_end_term_end_tuple_end)]
+#[cycle(atom_end_let_value_end_spine_end_term_end_tuple_end)]
 fn atom_end(
     text: &[u8],
     at: usize,
@@ -70,7 +70,7 @@ fn atom_end(
 }
 
 // An atom, and the atoms that it is applied to: up to the next head, or a word that begins no atom.
-#[cycle(atom_end_bound_end_let_body_end_spine_end_term_end_tuple_end)]
+#[cycle(atom_end_let_value_end_spine_end_term_end_tuple_end)]
 fn spine_end(
     text: &[u8],
     at: usize,
@@ -99,51 +99,55 @@ fn spine_end(
     }
 }
 
-// : type . term
-#[cycle(atom_end_bound_end_let_body_end_spine_end_term_end_tuple_end)]
-fn bound_end(text: &[u8], at: usize, more: usize) -> Result<usize, Refusal>
+// : type . before a body. Not inlined, as `let_value_end`, so that its answers take no stack in `term_end`.
+#[inline(never)]
+fn bound_type_end(text: &[u8], at: usize, more: usize) -> Result<usize, Refusal>
     requires { Lexed text.now at }
-    ensures { Ends text.now (length (from text.now at)) (bound_end (term_step more) (type_step more false) (from text.now at)) result }
+    ensures { Ends text.now (length (from text.now at)) (bound_type_end (type_step more false) (from text.now at)) result }
 {
     let c = steps::expect(text, at, COLON)?;
     let t = types::type_end(text, c, more, false)?;
-    let d = steps::expect(text, t, DOT)?;
-    term_end(text, d, more)
+    steps::expect(text, t, DOT)
 }
 
-// = term in term
-#[cycle(atom_end_bound_end_let_body_end_spine_end_term_end_tuple_end)]
-fn let_body_end(text: &[u8], at: usize, more: usize) -> Result<usize, Refusal>
+// = term in, before a body.
+#[inline(never)]
+#[cycle(atom_end_let_value_end_spine_end_term_end_tuple_end)]
+fn let_value_end(text: &[u8], at: usize, more: usize) -> Result<usize, Refusal>
     requires { Lexed text.now at }
-    ensures { Ends text.now (length (from text.now at)) (let_body_end (term_step more) (from text.now at)) result }
+    ensures { Ends text.now (length (from text.now at)) (let_value_end (term_step more) (from text.now at)) result }
 {
     let c = steps::expect(text, at, EQUALS)?;
     let v = term_end(text, c, more)?;
-    let d = steps::expect(text, v, IN)?;
-    term_end(text, d, more)
+    steps::expect(text, v, IN)
 }
 
 // Where the term at an offset ends: 32, or 34 where there are more than so many levels. A `match` on the kind would have the same four arms.
-#[cycle(atom_end_bound_end_let_body_end_spine_end_term_end_tuple_end)]
+// A body is the loop's next round and no call, so that bodies in bodies take no stack.
+#[cycle(atom_end_let_value_end_spine_end_term_end_tuple_end)]
 pub fn term_end(text: &[u8], at: usize, more: usize) -> Result<usize, Refusal>
     requires { Lexed text.now at }
     ensures { Ends text.now (length (from text.now at)) (term_step more (from text.now at)) result }
 {
-    let w = words::word_at(text, at);
-    if more == 0 {
-        return Err(Reason::TextLimit.at(w.start));
+    let mut next = at;
+    let mut left = more;
+    loop {
+        let w = words::word_at(text, next);
+        if left == 0 {
+            return Err(Reason::TextLimit.at(w.start));
+        }
+        if w.kind == FUN {
+            let x = names::binds_end(text, w.end, left)?;
+            next = bound_type_end(text, x, left - 1)?;
+        } else if w.kind == FIX {
+            let x = steps::name_end(text, w.end)?;
+            next = bound_type_end(text, x, left - 1)?;
+        } else if w.kind == LET {
+            let x = names::one_end(text, w.end, left)?;
+            next = let_value_end(text, x, left - 1)?;
+        } else {
+            return spine_end(text, next, left - 1, w.kind, w.start, w.end);
+        }
+        left -= 1;
     }
-    if w.kind == FUN {
-        let x = names::binds_end(text, w.end, more)?;
-        return bound_end(text, x, more - 1);
-    }
-    if w.kind == FIX {
-        let x = steps::name_end(text, w.end)?;
-        return bound_end(text, x, more - 1);
-    }
-    if w.kind == LET {
-        let x = names::one_end(text, w.end, more)?;
-        return let_body_end(text, x, more - 1);
-    }
-    spine_end(text, at, more - 1, w.kind, w.start, w.end)
 }

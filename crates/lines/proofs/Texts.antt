@@ -1,11 +1,13 @@
 -- The lines of the definitions, piece by piece. Assumes nothing.
 use mathlib.Core.Path.{◌≡◌, refl, ap, ap₂, sym, ◌∙◌}
-use mathlib.Core.List.{[], ◌∷◌, ◌++◌, append-nil, append_assoc}
-use Prim.Native.Nat.{ℕ, zero, suc, ◌+◌, ◌≤◌}
+use mathlib.Core.List.{List, [], ◌∷◌, ◌++◌, append-nil, append_assoc}
+use Prim.Native.Nat.{ℕ, zero, suc, ◌+◌, ◌-◌, ◌≤◌}
 use native.Mathlib.Omega.{arith}
-use lib.ListN.{length, get_or}
+use lib.ListN.{length, get_or, take, replicate, length-append}
+use lib.Seq.{take-append_seam}
 use Rattle.calculus.specs.Terms.{part_at}
 use Rattle.calculus.specs.Listing.{Text, line, field, terminal_fields, names}
+use Rattle.parts.specs.Table.{name_at, padded}
 use Rattle.lines.specs.OneLine.{point_line, part_line, wired_line, pin_line, refused_line}
 use Rattle.lines.specs.Figure.{figure, figures}
 use Rattle.lines.proofs.Decimal.{figures_are}
@@ -51,6 +53,13 @@ refused_text_lem number place =
     (ap₂ (λ (x y : Text). x ++ line y) (field_is number) (field_is place) ∙ ended (field number) (field place))
 
 -- ---- the name of a part, as the table of parts has it
+
+module _ (p n : ℕ) (letters : List ℕ) (e : letters ≡ padded (name_at p)) (f : n ≡ length (name_at p)) where
+  pub name-taken : take n letters ≡ name_at p
+  name-taken = rw (e, f) (take-append_seam (name_at p) (replicate (4 - length (name_at p)) 0))
+
+  pub name-room : n ≤ length letters
+  name-room = rw (e, f, length-append (name_at p) (replicate (4 - length (name_at p)) 0)) (omega arith)
 
 pub name-short : (p : ℕ) → length (get_or names p []) ≤ 4
 name-short zero = omega arith

@@ -28,6 +28,11 @@ use Rattle.made_nodes.proofs.Answers.{on-type, on-no-type}
 pub listable : (w : List ℕ) (k : Kind) (a b : ℕ) → Workable w → 2 ≤ kind_byte k → a < 256 → b < 256 → Listable w (record { kind = k; left = a; right = b })
 listable w k a b W low l r = record { room = W.room; count = W.few; form = low; left = l; right = r }
 
+-- a choice of two numbers keeps what both have
+pub chosen_range : (b : Bool) (k lo hi x y : ℕ) → k ≡ cond b x y → lo ≤ x → x ≤ hi → lo ≤ y → y ≤ hi → (lo ≤ k) × (k ≤ hi)
+chosen_range true k lo hi x y e a b c d = (omega arith, omega arith)
+chosen_range false k lo hi x y e a b c d = (omega arith, omega arith)
+
 -- ---- arrows
 
 pub arrow-form : (b : Bool) (k : Kind) → k ≡ cond b Kind.Arrow Kind.Linear → 2 ≤ kind_byte k

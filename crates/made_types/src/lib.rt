@@ -103,7 +103,8 @@ fn same(work: &[u16], t: u16, r: Record) -> bool
         && right_of(work, t) == r.right
 }
 
-// Where a record stands in the table, or where it would come. It stands behind its sides: so all products of a row are found in one pass.
+// Where a record stands in the table, or where it would come: behind its sides, also where they are not in the table yet. So all products of a row are found in
+// one pass.
 #[inline(always)]
 fn number_in(work: &[u16], r: Record) -> u16
     requires { Listable work.now r }
@@ -115,7 +116,7 @@ fn number_in(work: &[u16], r: Record) -> u16
             return k;
         }
     }
-    n
+    n.max(r.right + 1)
 }
 
 // The sides have the sorts that the form asks for.

@@ -4,7 +4,7 @@ use mathlib.Core.Path.{◌≡◌, refl, sym, ap, ◌∙◌, subst}
 use mathlib.Core.List.{List, [], ◌∷◌, ◌++◌, append-nil}
 use native.Mathlib.Omega.{arith}
 use native.Mathlib.Numerals.{add-one}
-use lib.ListN.{length, get_or, take, drop, replicate, length-append, length-replicate, take-append-drop}
+use lib.ListN.{length, get_or, take, drop, replicate, length-append, length-replicate, take-append-drop, replicate-append-replicate}
 use lib.Seq.{sets, sets-eq, take-suc, take-length, length-take-le}
 use Rattle.laws.proofs.Regions.{sets-append}
 use Rattle.calculus.specs.Types.{size, TyRec, Table, rec_at, tree}
@@ -27,6 +27,13 @@ use Rattle.memory.specs.Map.{makers_at, memory_size}
 use Rattle.records.specs.TypeNumbers.{left_no}
 use Rattle.records.proofs.SideLaws.{left_of_lem}
 use Rattle.makers.specs.Naming.{elements_made, Nameable}
+
+-- ---- a run of one number
+
+pub run_more : (w : List ℕ) (to i x : ℕ) → sets (sets w to (replicate i x)) (to + i) (x ∷ []) ≡ sets w to (replicate (i + 1) x)
+run_more w to i x =
+    ap (λ (j : ℕ). sets (sets w to (replicate i x)) (to + j) (x ∷ [])) (sym (length-replicate i x))
+    ∙ sets-append (replicate i x) (x ∷ []) w to ∙ ap (sets w to) (replicate-append-replicate i 1 x)
 
 -- ---- a run stored at once
 

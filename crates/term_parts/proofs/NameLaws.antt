@@ -57,6 +57,11 @@ pub record OneRead (one : List Word → Answer (Got Bound)) (text : List ℕ) (a
   pub reads : one (from text at) ≡ got (value_in no_bound (one (from text at))) (from text x.end)
   pub further : Further text at x.end
 
+-- .. or a refusal
+abbrev pub OneSays : (List Word → Answer (Got Bound)) → List ℕ → ℕ → Result NameEnd Refusal → Type 0
+OneSays one text at (Ok x) = OneRead one text at x
+OneSays one text at (Err e) = one (from text at) ≡ refused (said_why e)
+
 value_read : (m : Answer (Got Bound)) (x : Bound) (us : List Word) → m ≡ got x us → m ≡ got (value_in no_bound m) us
 value_read m x us e = e ∙ ap (λ (q : Answer (Got Bound)). got (value_in no_bound q) us) (sym e)
 
@@ -107,6 +112,16 @@ module _ (text : List ℕ) (at : ℕ) (S : NamesStand head_at behind text at 2) 
       }
 
 -- ---- names counted
+
+-- what is left of the words behind a name that was read; one less than nothing where none was
+abbrev pub left_names : List ℕ → Result NameEnd Refusal → ℕ
+left_names text (Ok x) = length (from text x.end) + 1
+left_names text (Err e) = 0
+
+-- one name more leaves fewer words
+pub names_less : (one : List Word → Answer (Got Bound)) (text : List ℕ) (x : Result NameEnd Refusal) (at : ℕ) (y : Result NameEnd Refusal) (n : NameEnd) → x ≡ Ok n → length (from text at) ≤ length (from text n.end) → OneSays one text at y → left_names text y < left_names text x
+names_less one text x at (Ok m) n z h Y = rw z (omega (arith, Y.further.fewer))
+names_less one text x at (Err e) n z h Y = rw z (omega arith)
 
 bind-same : {A B : Type 0} (m : Answer A) (f g : A → Answer B) → ((x : A) → f x ≡ g x) → (m >>= f) ≡ (m >>= g)
 bind-same (good x) f g e = e x

@@ -1,5 +1,5 @@
 -- What the functions of one step answer: in each record, whatever state the memory held, the answer is that of the machine. Assumes nothing.
-use Rattle.std.specs.Prelude.{ℕ, suc, ◌+◌, ◌-◌, ◌≤◌, ◌<◌, ◌≡◌, Bool, true, false, List, [], ◌∷◌, length, get_or, Option, None, Some, Result, Ok, Err}
+use Rattle.std.specs.Prelude.{ℕ, suc, ◌+◌, ◌-◌, ◌≤◌, ◌<◌, ◌≡◌, cond, Bool, true, false, List, [], ◌∷◌, length, get_or, Option, None, Some, Result, Ok, Err}
 use Rattle.answers.specs.declared.Refusal.{Refusal}
 use Rattle.answers.specs.Refusals.{said_why}
 use Rattle.calculus.specs.Answer.{Answer, good, refused, ◌>>=◌}
@@ -154,9 +154,13 @@ pub record EnterSays (text w : List ℕ) (h : Walk) (D : LevelEntry) (r : Result
 abbrev pub AtomEntry : Type 0
 AtomEntry = Text → List (List Word) → TermHere → Spine → State → Answer Terming
 
--- where the application begins, and the function so far, if there is one
-abbrev pub left_here : ℕ → Option Sub → Left
-left_here place function = record { place = place; function = function }
+-- the function so far: the walk's term, or none
+abbrev pub function_here : Walk → Bool → Option Sub
+function_here h applied = cond applied (Some h.sub) None
+
+-- where the application begins, and the function so far
+abbrev pub left_here : Walk → ℕ → Bool → Left
+left_here h place applied = record { place = place; function = function_here h applied }
 
 pub record CanAtom (text w : List ℕ) (h : Walk) (s : Left) : Type 0 where
   pub can : CanEnter text w h

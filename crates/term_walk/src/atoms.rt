@@ -4,7 +4,7 @@ ghost use Rattle.notation_calculus.specs.Words.{run};
 ghost use Rattle.notation_calculus.specs.Making.{most_entries};
 ghost use Rattle.words.specs.Lexed.{Lexed};
 ghost use Rattle.term_walk.specs.Looks.{Looks};
-ghost use Rattle.term_walk.specs.Steps.{left_here, CanApply, BehindSays, CanApplyMade, MadeSays, CanAtom, AtomSays, TypesWait, clause_entry, put_entry, plain_entry, named_entry, atom_entry, CanApplication, ApplicationSays};
+ghost use Rattle.term_walk.specs.Steps.{function_here, left_here, CanApply, BehindSays, CanApplyMade, MadeSays, CanAtom, AtomSays, TypesWait, clause_entry, put_entry, plain_entry, named_entry, atom_entry, CanApplication, ApplicationSays};
 
 use crate::{Form, Left, Walk, looks};
 use answers::{Reason, Refusal};
@@ -22,10 +22,10 @@ pub fn behind_atom(work: &mut [u16], h: Walk, s: Left, x: Sub, at: usize) -> Res
     ensures { BehindSays work.old h s x at result work.new }
 {
     let Some(f) = s.function else {
-        return Ok(crate::applies(h, s.place, x, at));
+        return crate::applies(h, s.place, Ok(x), at);
     };
-    let made = made_nodes::pairs::applied(work, s.place, f, x)?;
-    Ok(crate::applies(h, s.place, made, at))
+    let made = made_nodes::pairs::applied(work, s.place, f, x);
+    crate::applies(h, s.place, made, at)
 }
 
 // A definition is put in, with so many type arguments that wait; its body is wanted, and the level waits before the words behind the name
@@ -106,23 +106,31 @@ fn named_at(
     plain_at(text, work, h, s, name, at)
 }
 
-// An atom begins with the word at the offset: behind an opening parenthesis the first element is wanted. The word, and where the application begins, are
-// passed on by their fields: a struct that was just written is waited for where it is copied as a whole. The kind is that of `words::Word`, a number
-// of which the definition `token_code` speaks: no enum says which step comes next, here and in `rounds::enter`.
+// The function so far: the walk's own term, or none.
+fn so_far(h: Walk, applied: bool) -> Option<Sub>
+    ensures { result ≡ function_here h applied }
+{
+    if applied { Some(h.sub) } else { None }
+}
+
+// An atom begins with the word at the offset: behind an opening parenthesis the first element is wanted. The word, where the application begins, and whether
+// the walk's term is the function so far are passed on as numbers: a struct that was just written is waited for where it is copied as a whole. The kind is
+// that of `words::Word`, a number of which the definition `token_code` speaks: no enum says which step comes next, here and in `rounds::enter`.
 pub fn atom_at(
     text: &[u8],
     work: &mut [u16],
     h: Walk,
     place: u16,
-    function: Option<Sub>,
+    applied: bool,
     kind: u8,
     value: u8,
     start: usize,
     end: usize,
 ) -> Result<Walk, Refusal>
-    requires { (CanAtom text.now work.old h (left_here place function)) × Looks text.now h.at (record { kind = kind; value = value; start = start; end = end }) }
-    ensures { AtomSays text.now work.old h (left_here place function) (atom_entry text.now h.at) result work.new }
+    requires { (CanAtom text.now work.old h (left_here h place applied)) × Looks text.now h.at (record { kind = kind; value = value; start = start; end = end }) }
+    ensures { AtomSays text.now work.old h (left_here h place applied) (atom_entry text.now h.at) result work.new }
 {
+    let function = so_far(h, applied);
     let s = Left { place, function };
     if kind == ROUND {
         let l = crate::part_level(Form::Element as u16, s, 0, 0);
@@ -146,17 +154,9 @@ pub fn application_from(text: &[u8], work: &mut [u16], h: Walk) -> Result<Walk, 
     let sub = h.sub;
     let w = looks::atom_word(text, work, h.at);
     if w.kind == 0 {
-        return Ok(crate::done(h, sub, h.at));
+        return crate::done(h, Ok(sub), h.at);
     }
     atom_at(
-        text,
-        work,
-        h,
-        h.place,
-        Some(sub),
-        w.kind,
-        w.value,
-        w.start,
-        w.end,
+        text, work, h, h.place, true, w.kind, w.value, w.start, w.end,
     )
 }

@@ -47,16 +47,16 @@ fn leave_function(text: &[u8], work: &mut [u16], h: Walk, l: Level) -> Result<Wa
     requires { (CanLeave text.now work.old h l h.sub) × (l.form ≡ 1) }
     ensures { LeaveSays text.now work.old h l h.sub result work.new }
 {
-    let made = made_nodes::binders::functions(work, h.top as u16, l.count, l.ty, h.sub)?;
-    Ok(crate::done(h, made, h.at))
+    let made = made_nodes::binders::functions(work, h.top as u16, l.count, l.ty, h.sub);
+    crate::done(h, made, h.at)
 }
 
 fn leave_fix(text: &[u8], work: &mut [u16], h: Walk, l: Level) -> Result<Walk, Refusal>
     requires { (CanLeave text.now work.old h l h.sub) × (l.form ≡ 2) }
     ensures { LeaveSays text.now work.old h l h.sub result work.new }
 {
-    let made = made_nodes::binders::fixed_point(work, l.place, l.ty, h.sub)?;
-    Ok(crate::done(h, made, h.at))
+    let made = made_nodes::binders::fixed_point(work, l.place, l.ty, h.sub);
+    crate::done(h, made, h.at)
 }
 
 // ---- names for terms
@@ -142,8 +142,8 @@ fn leave_name(text: &[u8], work: &mut [u16], h: Walk, l: Level) -> Result<Walk, 
     requires { (CanLeave text.now work.old h l h.sub) × (l.form ≡ 5) }
     ensures { LeaveSays text.now work.old h l h.sub result work.new }
 {
-    let made = made_nodes::binders::naming(work, l.place, term_of(l), h.sub)?;
-    Ok(crate::done(h, made, h.at))
+    let made = made_nodes::binders::naming(work, l.place, term_of(l), h.sub);
+    crate::done(h, made, h.at)
 }
 
 fn leave_names(text: &[u8], work: &mut [u16], h: Walk, l: Level) -> Result<Walk, Refusal>
@@ -156,8 +156,8 @@ fn leave_names(text: &[u8], work: &mut [u16], h: Walk, l: Level) -> Result<Walk,
         h.waiting,
         usize::from(l.count),
         h.sub,
-    )?;
-    Ok(crate::done(h, made, h.at))
+    );
+    crate::done(h, made, h.at)
 }
 
 // ---- tuples

@@ -2,7 +2,7 @@
 #![tactic(auto)]
 
 ghost use Rattle.std.specs.Prelude.{◌≡◌, ◌≤◌};
-ghost use Rattle.term_walk.specs.Steps.{nothing_sub, form_number, walk_at, part_level, done_walk, applying_walk, CanAskTerm, Below, Asks};
+ghost use Rattle.term_walk.specs.Steps.{nothing_sub, form_number, walk_at, part_level, done_step, applies_step, CanAskTerm, Below, Asks};
 
 use answers::Refusal;
 use made_nodes::Sub;
@@ -93,24 +93,30 @@ pub fn nothing() -> Sub
     }
 }
 
-// A level that waits for a part of an application: the function so far stays. The form is a number, as in `Level`, and no `Form`: the level is promised for
-// every number, and a `Form` would ask more of callers.
-pub fn part_level(form: u16, s: Left, count: u16, next: u16) -> Level
-    ensures { result ≡ part_level form s count next }
+// A level that waits for a part of an application, by its numbers, whatever they are: the flag says whether there is a function so far, which `sub` then is.
+pub fn numbered_level(form: u16, place: u16, flag: u16, sub: Sub, count: u16, next: u16) -> Level
+    ensures { result ≡ record { form = form; flag = flag; place = place; count = count; node = sub.node; ty = sub.ty; deep = sub.deep; next = next } }
 {
-    let (flag, sub) = match s.function {
-        None => (0, nothing()),
-        Some(f) => (1, f),
-    };
     Level {
         form,
         flag,
-        place: s.place,
+        place,
         count,
         node: sub.node,
         ty: sub.ty,
         deep: sub.deep,
         next,
+    }
+}
+
+// .. of what stands left of an atom: the function so far stays. The form is a number, as in `Level`, and no `Form`: the level is promised for
+// every number, and a `Form` would ask more of callers.
+pub fn part_level(form: u16, s: Left, count: u16, next: u16) -> Level
+    ensures { result ≡ part_level form s count next }
+{
+    match s.function {
+        None => numbered_level(form, s.place, 0, nothing(), count, next),
+        Some(f) => numbered_level(form, s.place, 1, f, count, next),
     }
 }
 
@@ -176,28 +182,30 @@ pub fn ask(
     Ok(below(work, h, l, frame, top, waiting, at))
 }
 
-// The level is done with a term.
-pub fn done(h: Walk, sub: Sub, at: usize) -> Walk
-    ensures { result ≡ done_walk h sub at }
+// The level is done with a term, if it could be made.
+pub fn done(h: Walk, made: Result<Sub, Refusal>, at: usize) -> Result<Walk, Refusal>
+    ensures { result ≡ done_step h made at }
 {
-    Walk {
+    let sub = made?;
+    Ok(Walk {
         phase: Phase::Came,
         place: 0,
         sub,
         at,
         ..h
-    }
+    })
 }
 
-// A term is the function of the application that begins at a place.
-pub fn applies(h: Walk, begins: u16, sub: Sub, at: usize) -> Walk
-    ensures { result ≡ applying_walk h begins sub at }
+// A term, if it could be made, is the function of the application that begins at a place.
+pub fn applies(h: Walk, begins: u16, made: Result<Sub, Refusal>, at: usize) -> Result<Walk, Refusal>
+    ensures { result ≡ applies_step h begins made at }
 {
-    Walk {
+    let function = made?;
+    Ok(Walk {
         phase: Phase::Applying,
         place: begins,
-        sub,
+        sub: function,
         at,
         ..h
-    }
+    })
 }

@@ -59,8 +59,8 @@ fn list_made(
         next: items.from as u16,
     };
     let n = crate::below(work, h, l, h.frame, h.top, h.waiting, at);
-    let made = made_nodes::leaves::variable(work, number, ty, items.round as u16)?;
-    Ok(crate::done(n, made, at))
+    let made = made_nodes::leaves::variable(work, number, ty, items.round as u16);
+    crate::done(n, made, at)
 }
 
 // A list is taken apart in the body that the walk is at: it has a level of its own, and its variable stands in the scope.

@@ -32,7 +32,7 @@ fn enter(text: &[u8], work: &mut [u16], h: Walk) -> Result<Walk, Refusal>
             work,
             h,
             w.start as u16,
-            None,
+            false,
             w.kind,
             w.value,
             w.start,

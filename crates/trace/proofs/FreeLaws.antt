@@ -1,7 +1,7 @@
 -- A netlist without rings: the tests, the start, all ticks. Assumes nothing.
 use Prim.Native.Nat.{ℕ, zero, suc, ◌+◌, ◌-◌, ◌*◌, ◌/◌, ◌≤◌, ◌<◌}
 use mathlib.Core.Path.{◌≡◌, refl, sym, ap, ◌∙◌, subst}
-use mathlib.Core.Bool.{Bool, true, false, cond, ◌&&◌}
+use mathlib.Core.Bool.{Bool, true, false, cond, not, ◌&&◌}
 use mathlib.Core.List.{List, [], ◌∷◌, ◌++◌, append_assoc}
 use native.Mathlib.Omega.{arith}
 use native.Mathlib.Decide.{ℕ_discrete}
@@ -9,7 +9,7 @@ use native.Mathlib.Nat.{mul-le-mul_right}
 use lib.ListN.{length, get_or, set}
 use lib.Seq.{sets}
 use lib.Dec.{T, eqb, ltb, leb, eqb→eq}
-use borrow.Author.Tests.{le-leb, lt-leb}
+use borrow.Author.Tests.{not-true, not-false, le-leb, lt-leb}
 use Rattle.laws.proofs.Regions.{sets-append, sets-front}
 use Rattle.calculus.specs.Answer.{Answer, good, refuse, ◌>>=◌, need}
 use Rattle.calculus.specs.Net.{Interface, Element, part, Net}
@@ -49,6 +49,13 @@ use Rattle.trace.proofs.PinLists.{up_to, upto_is, ins-length, outs-length, ins-o
 use Rattle.trace.proofs.RegisterLists.{Collected, collect, element_entry, registers-length, register_at_lem, register_number, registers-apart}
 use Rattle.trace.proofs.RunLaws.{RunStood, State, state-next, row-stored}
 use Rattle.trace.proofs.StageLaws.{tabled_same}
+
+-- a test, and what it says
+pub said_no : {x : Bool} (r : Bool) → r ≡ x → not r ≡ true → x ≡ false
+said_no r e q = sym e ∙ not-true r q
+
+pub said_yes : {x : Bool} (r : Bool) → r ≡ x → not r ≡ false → x ≡ true
+said_yes r e q = sym e ∙ not-false r q
 
 -- ---- what is lent
 

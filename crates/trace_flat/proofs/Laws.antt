@@ -18,7 +18,7 @@ use Rattle.trace_steps.specs.Words.{word_at, input_word}
 use Rattle.trace_steps.specs.Pins.{pin_is_in, in_pin_count, out_pin_count, PinsLow}
 use Rattle.trace_steps.proofs.PinLaws.{ins-next, outs-next, ins_up, outs_up, ins_yes, ins_no, outs_yes, outs_no}
 use Rattle.trace_steps.proofs.Laws.{turns_next, first_low, set_other}
-use Rattle.trace_flat.specs.Flat.{OnlyBetween, Gates, GatesLaid, SourcesLaid, PinsLaid, first_at, second_at_lem, third_at, gates_at, ins_at, outs_at, sources_at, next_at, zero_at, flat_most, flat_step, second_for, third_for, first_place, last_place, lay_at}
+use Rattle.trace_flat.specs.Flat.{OnlyBetween, FlatGate, Gates, Sources, GatesLaid, SourcesLaid, PinsLaid, first_at, second_at_lem, third_at, gates_at, ins_at, outs_at, sources_at, next_at, shown_at, zero_at, flat_most, flat_step, second_for, third_for, first_place, last_place, lay_at}
 
 false≢true : false ≡ true → ⊥
 false≢true e = subst T (sym e) tt
@@ -41,12 +41,31 @@ pub stretch-step : (lo hi : ℕ) (f : ℕ → List ℕ → List ℕ) (u w v : Li
     → OnlyBetween lo hi u v × (v ≡ take_turns f (j + 1) 0 u)
 stretch-step lo hi f u w v j i q e k = (subst (λ (z : List ℕ). OnlyBetween lo hi u z) (sym e) (between_then i k), e ∙ turns_next f j u w q)
 
+-- the gates' places stay where only what they show changes
+pub gate-between : {u w : List ℕ} → OnlyBetween gates_at ins_at u w → {j : ℕ} → FlatGate u j → FlatGate w j
+gate-between b {j} g =
+    let s = b.size in
+    let z = g.size in
+    let f = g.few in
+    let x = b.below (first_at + j) (omega arith) in
+    let y = b.below (second_at_lem + j) (omega arith) in
+    let t = b.below (third_at + j) (omega arith) in
+    let p = g.first in
+    let q = g.second in
+    let r = g.third in record { size = omega arith; few = f; first = omega arith; second = omega arith; third = omega arith }
+
+pub source-between : {u w : List ℕ} {n : ℕ} → OnlyBetween next_at shown_at u w → Sources u n → (j : ℕ) → j < n → get_or w (sources_at + j) 0 < memory_size
+source-between b s j h = let f = s.few in let e = b.below (sources_at + j) (omega arith) in let l = s.each j h in omega arith
+
 -- ---- a pass
 
 -- the first k gates have their bits
 pub record Passing (u : List ℕ) (k : ℕ) (w : List ℕ) : Type 0 where
   pub between : OnlyBetween gates_at ins_at u w
   pub whole : w ≡ take_turns flat_step k 0 u
+
+pub passing_gate : (u w : List ℕ) (n k : ℕ) → Gates u n → k < n → Passing u k w → FlatGate w k
+passing_gate u w n k g h p = gate-between p.between (g.each k h)
 
 pub passing_next : (u w v : List ℕ) (n i k : ℕ) → Gates u n → i < n → k ≡ i + 1 → Passing u i w → v ≡ flat_step i w → Passing u k v
 passing_next u w v n i k g h q p e =
@@ -111,6 +130,33 @@ module _ (w : List ℕ) (j a p q : ℕ) (few : j < flat_most) (size : memory_siz
 
 pub order_same : (u w : List ℕ) (n j : ℕ) → OnlyBetween first_at gates_at u w → Ordered u n → j < n → get_or w (order_at + j) 0 ≡ get_or u (order_at + j) 0
 order_same u w n j b r h = let f = r.few in b.below (order_at + j) (omega arith)
+
+-- the order looks as it did
+pub laid-looks : (u w : List ℕ) (n j : ℕ) → OnlyBetween first_at gates_at u w → Ordered u n → j < n → Looks w (get_or w (order_at + j) 0)
+laid-looks u w n j b r h =
+    let o = get_or u (order_at + j) 0 in
+    let l = r.looks j h in
+    let e = entry-laid u w b o l in
+    let lo = l.low in
+    let s = b.size in
+    let z = l.size in
+    let k = l.kind in
+    let f = first-laid u w b o l in
+    let fl = first_low u o lo in
+    let x = b.below (first_in u o) (omega arith) in
+    let xf = ap (λ (y : ℕ). get_or w y 0) f in
+    let y = b.below (o - 1) (omega arith) in
+    let lf = l.first in
+    let ll = l.last in
+    subst (λ (x : ℕ). Looks w x) (sym (order_same u w n j b r h)) (record {
+      size = omega arith;
+      low = lo;
+      some = l.some;
+      kind = omega arith;
+      two = λ t. l.two (omega arith);
+      first = omega arith;
+      last = omega arith;
+    })
 
 -- one gate more
 pub laid_next : (u w v : List ℕ) (n j : ℕ) → Ordered u n → n ≤ flat_most → j < n → GatesLaid u j w → v ≡ lay_at w j (get_or w (order_at + j) 0) → GatesLaid u (j + 1) v

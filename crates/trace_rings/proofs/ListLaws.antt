@@ -12,7 +12,7 @@ use borrow.Author.Tests.{ltb-true}
 use Rattle.lean.specs.Layout.{kinds_from}
 use Rattle.trace_steps.specs.Map.{rest_at, order_at, register_entry, one_entry, point_entry}
 use Rattle.trace_steps.proofs.Laws.{set_other}
-use Rattle.trace_rings.specs.Lists.{looks_at, looks_in, Choosable}
+use Rattle.trace_rings.specs.Lists.{looks_at, looks_in, Choosable, Chosen}
 
 -- what looks at something is an output
 pub looks-high : (v : ℕ) → looks_at v ≡ true → kinds_from ≤ v
@@ -85,3 +85,37 @@ module _ (u : List ℕ) (end x y : ℕ) (w : List ℕ) (n : ℕ) (p : Choosable 
           | no d ↦ (let o = c.all a (omega arith) g v in (o.0, omega (arith, o.1), at_other (rest_at + o.0) (λ t. omega (arith, o.1)) ∙ o.2))
         ];
       }
+
+  pub choosing_no : looks_in w y ≡ false → Choosing u end y w n
+  choosing_no q =
+      let m = c.low in
+      let h = c.half in
+      record {
+        size = c.size;
+        table = c.table;
+        above = c.above;
+        low = omega arith;
+        half = omega arith;
+        free = λ g. omega arith;
+        from = λ k l. (let b = c.from k l in omega arith);
+        each = c.each;
+        falling = c.falling;
+        all = λ a l g v. elim (ℕ_discrete a y) [
+          | yes t ↦ absurd (subst (λ (b : Bool). T b) (sym choosing_same ∙ q) (subst (λ (b : Bool). T b) (sym (subst (λ (k : ℕ). looks_in u k ≡ true) t v)) tt))
+          | no d ↦ c.all a (omega arith) g v
+        ];
+      }
+
+pub choosing_end : (u : List ℕ) (end x : ℕ) (w : List ℕ) (n : ℕ) → Choosable u end → x ≡ 0 → Choosing u end x w n → Chosen u end w n
+choosing_end u end x w n p e c =
+    let f = p.few in
+    let h = c.half in
+    record {
+      size = c.size;
+      table = c.table;
+      above = c.above;
+      few = omega arith;
+      each = c.each;
+      falling = c.falling;
+      all = λ y l v. c.all y (omega arith) l v;
+    }

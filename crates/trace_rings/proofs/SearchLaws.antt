@@ -40,6 +40,20 @@ joined-kept w y s n l h = record {
   above = λ j g. set_other (set w (bits_at + y) s) (order_at + n) j y (λ z. omega arith) ∙ set_other w (bits_at + y) j s (λ z. omega arith);
 }
 
+pub meet_kept : (w : List ℕ) (y s n : ℕ) → y < 8192 → n ≤ 5120 → Kept w (meet_in w y s n).mem
+meet_kept w y s n l h = by (eqb (mark w y) 1 || eqb (mark w y) s)
+  where
+    by : (b : Bool) → Kept w (cond b (counted w n) (counted (joined w y s n) (n + 1))).mem
+    by true = kept-none w
+    by false = joined-kept w y s n l h
+
+pub meet_count : (w : List ℕ) (y s n : ℕ) → (meet_in w y s n).count ≤ n + 1
+meet_count w y s n = by (eqb (mark w y) 1 || eqb (mark w y) s)
+  where
+    by : (b : Bool) → (cond b (counted w n) (counted (joined w y s n) (n + 1))).count ≤ n + 1
+    by true = omega arith
+    by false = omega arith
+
 -- ---- the search
 
 -- y is settled, or among the n that are met
@@ -285,6 +299,16 @@ module _ (u : List ℕ) (left x s : ℕ) (r : Rest u left) (f : Fresh u s) where
 
 -- ---- as code has it
 
+pub among-low : (u : List ℕ) (left x : ℕ) → Rest u left → InputAmong u left x → x < 8192
+among-low u left x r a = by a.input
+  where
+    low : rest u a.at < 8192
+    low = (r.looks a.at a.low).low
+
+    by : InputOf u (rest u a.at) x → x < 8192
+    by (inl e) = let l = low in omega (arith, first_low u (rest u a.at) l)
+    by (inr e) = let l = low in omega arith
+
 pub among-source : (u : List ℕ) (left x : ℕ) → Rest u left → InputAmong u left x → get_or u x 0 < 8192
 among-source u left x r a = by a.input
   where
@@ -333,6 +357,16 @@ going_end u left x s v m b w n h l g =
     let r = g u b in
     let e : h ≡ n = (let o = r.0.order in omega arith) in
     search-end u left x s b.holds b.fresh w n (subst (λ (k : ℕ). SearchingBack u left x s w n k) e r.0) r.1
+
+pub meet_after : (w : List ℕ) (y s n : ℕ) (v : List ℕ) (k : ℕ) → y < 8192 → n ≤ 5120 → counted v k ≡ meet_in w y s n → Kept w v × (k ≤ n + 1)
+meet_after w y s n v k l h e = (subst (λ (c : Counted). Kept w c.mem) (sym e) (meet_kept w y s n l h), subst (λ (c : Counted). c.count ≤ n + 1) (sym e) (meet_count w y s n))
+
+pub told_yes : (u : List ℕ) (x s o : ℕ) (w : List ℕ) (r : Bool) → o < 8192 → Searched u x s w → r ≡ eqb (mark w o) s → SearchTold u x s o w r
+told_yes u x s o w r l c e = record {
+  searched = c;
+  yes_behind = λ q. c.behind o l (eqb→eq (mark w o) s (subst (λ (b : Bool). T b) (sym q ∙ e) tt));
+  not_behind = λ q b. eqb-false (mark w o) s (sym e ∙ q) (c.all o b);
+}
 
 -- ---- the same behind, after marks have changed
 

@@ -5,6 +5,7 @@ use mathlib.Core.Bool.{cond}
 use mathlib.Core.List.{List}
 use native.Mathlib.Omega.{arith}
 use native.Mathlib.Nat.{suc-mul, mul-le-mul_right}
+use native.Mathlib.Numerals.{add-one}
 use lib.Dec.{eqb}
 use Rattle.lean.specs.Table.{Within}
 use Rattle.lean.proofs.TableLaws.{within_then}
@@ -78,3 +79,9 @@ ran-next g z bits i o t u out₀ w out v w' r k = record {
 
 pub fits_next : (t n i a : ℕ) → t < n → n * i ≤ a → t * i + i ≤ a
 fits_next t n i a h l = omega (arith, mul-le-mul_right {m = suc t} {n = n} i h, suc-mul t i)
+
+pub next_mul : (t i : ℕ) → t * i + i ≡ (t + 1) * i
+next_mul t i = sym (ap (λ (k : ℕ). k * i) (add-one t) ∙ suc-mul t i)
+
+pub zero_mul : (i : ℕ) → 0 ≡ 0 * i
+zero_mul i = omega arith

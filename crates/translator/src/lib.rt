@@ -3,6 +3,7 @@
 #![tactic(auto)]
 
 ghost use Rattle.std.specs.Prelude.{◌≡◌, ◌≤◌, min, length};
+ghost use Rattle.calculus.specs.Answer.{refused};
 ghost use Rattle.calculus.specs.Translate.{work_of};
 ghost use Rattle.translator.specs.Stages.{ReadStage, WellTyped};
 ghost use Rattle.translator.specs.Made.{MakeLeaves};
@@ -102,6 +103,17 @@ fn shown(n: u64, most: u64) -> u64
     most
 }
 
+// A refusal as one number, from its own number, which may be any byte, its place and the two types: the bits are those of `word`.
+pub fn refusal_word(number: u8, place: usize, wanted: u16, found: u8) -> u64
+    ensures { result ≡ packed (refused (record { number = number; place = place; wanted = wanted; found = found })) }
+{
+    let shown_place = shown(place as u64, 4294967295);
+    let shown_wanted = shown(wanted as u64, 4095);
+    let shown_found = shown(found as u64, 4095);
+    let first = number as u64 * 4294967296 + shown_place;
+    first + (shown_wanted * 1099511627776 + shown_found * 4503599627370496)
+}
+
 // What a call that writes answers, as one number: the number of bytes written, or a refusal. Bits 0 to 31 hold the number of bytes or the
 // place, 32 to 39 the refusal's number, 0 for none, 40 to 51 the type number wanted and 52 to 63 the one found.
 pub fn word(answer: Result<usize, Refusal>) -> u64
@@ -109,12 +121,6 @@ pub fn word(answer: Result<usize, Refusal>) -> u64
 {
     match answer {
         Ok(n) => shown(n as u64, 4294967295),
-        Err(r) => {
-            let place = shown(r.place as u64, 4294967295);
-            let wanted = shown(r.wanted as u64, 4095);
-            let found = shown(r.found as u64, 4095);
-            let first = r.reason.number() as u64 * 4294967296 + place;
-            first + (wanted * 1099511627776 + found * 4503599627370496)
-        }
+        Err(r) => refusal_word(r.reason.number(), r.place, r.wanted, r.found),
     }
 }

@@ -1,5 +1,5 @@
 -- A form filled with its numbers, character by character. Assumes nothing.
-use Prim.Native.Nat.{ℕ, suc, ◌+◌, ◌*◌, ◌/◌, ◌%◌, ◌≤◌, ◌<◌}
+use Prim.Native.Nat.{ℕ, zero, suc, ◌+◌, ◌*◌, ◌/◌, ◌%◌, ◌≤◌, ◌<◌}
 use mathlib.Core.Path.{◌≡◌, refl, sym, ap, ◌∙◌}
 use mathlib.Core.Bool.{Bool, true, false, cond}
 use mathlib.Core.List.{List, [], ◌∷◌, ◌++◌, append_assoc, append-nil}
@@ -8,6 +8,12 @@ use native.Mathlib.Numerals.{add-one}
 use lib.ListN.{length, get_or, take, set, length-append}
 use lib.Seq.{sets, take-suc}
 use Rattle.export_calculus.specs.Verilog.{four_digits, is_mark, pick, letter, filled}
+
+-- a store past the end changes nothing
+pub set_past : (l : List ℕ) (i v : ℕ) → length l ≤ i → set l i v ≡ l
+set_past [] i v h = refl
+set_past (x ∷ l) zero v h = absurd (omega arith)
+set_past (x ∷ l) (suc i) v h = ap (λ (t : List ℕ). x ∷ t) (set_past l i v (omega arith))
 
 -- four_digits stores are a number
 pub four_stores : (o o₁ o₂ o₃ o₄ : List ℕ) (at n : ℕ) → o₁ ≡ set o at (48 + n / 10 / 10 / 10 % 10) → o₂ ≡ set o₁ (at + 1) (48 + n / 10 / 10 % 10)

@@ -56,5 +56,10 @@ name_by c x y z e f g = sym (ap (λ (b : Bool). b || digit c || eqb c 39) e ∙ 
 pub late_name : (c : ℕ) → 97 ≤ c → leb c 122 ≡ in_name c
 late_name c h = sym (or_none_lem (leb c 122)) ∙ ap (λ (b : Bool). b || false) (sym (or_none_lem (leb c 122))) ∙ name_by c (leb c 122) false false (late_letter c h) (above 48 57 c (omega arith)) (other c 39 (λ e. absurd (omega arith)))
 
+pub middle-name : (c : ℕ) → 57 < c → c < 97 → (between 65 90 c || eqb c 95) ≡ in_name c
+middle-name c h g =
+    let l = between 65 90 c || eqb c 95 in
+    sym (or_none_lem l) ∙ ap (λ (b : Bool). b || false) (sym (or_none_lem l)) ∙ name_by c l false false (middle-letter c g) (above 48 57 c h) (other c 39 (λ e. absurd (omega arith)))
+
 pub letter-name : (c : ℕ) → letter c ≡ true → in_name c ≡ true
 letter-name c e = ap (λ (b : Bool). b || digit c || eqb c 39) e

@@ -8,7 +8,7 @@ use native.Mathlib.Decide.{ℕ_discrete}
 use lib.Dec.{eqb, leb, eqb-suc-suc, eqb-zero-suc, eqb-suc-zero}
 use lib.ListN.{length, get_or, take, drop, length-drop}
 use lib.Seq.{length-take-le}
-use borrow.Author.Tests.{eq-eqb, ne_eqb, le-leb, leb-true}
+use borrow.Author.Tests.{eq-eqb, ne_eqb, le-leb, lt-leb, leb-true}
 use Rattle.calculus.specs.Answer.{Answer, good, refuse}
 use Rattle.notation_calculus.specs.Words.{Token, name, Spelled, same_name, digit, in_name, run, all_digits, capped, value_from, Read, named, begins_with, sign_at, number_word, reserved, signs}
 use Rattle.words.specs.Tables.{token_code, token_value, row_fits, RowSaid, row_of}
@@ -96,6 +96,9 @@ module _ (text : List ℕ) (start end value at : ℕ) (d : DigitsAt text start e
 
   digits_sum : value_from 0 (run_at text start) ≡ value
   digits_sum = d.sum ∙ ap (value_from value) none
+
+  pub number_large : 255 < value → record { code = 34; value = 0; place = start; end = start } ≡ told (found_at start (number_word (run_at text start) start))
+  number_large g = simp (digits-all, digits_sum, lt-leb value 255 g)
 
   pub number_good : start ≤ length text → value ≤ 255 → record { code = 23; value = value; place = start; end = end } ≡ told (found_at start (number_word (run_at text start) start))
   number_good i g = simp (digits-all, digits_sum, le-leb value 255 g) (said_eq refl refl refl (d.ends ∙ ap (λ (n : ℕ). start + n) (sym (run_long text start i))))

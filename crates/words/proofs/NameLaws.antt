@@ -46,6 +46,16 @@ and_true : (x : Bool) → (x && true) ≡ x
 and_true true = refl
 and_true false = refl
 
+-- one byte of each
+pub one_byte : (text : List ℕ) (a b n : ℕ) → BothInside text a b n → n < 2 → ¬ (n ≡ 0) → eqb (get_or text a 0) (get_or text b 0) ≡ same_name (take n (drop a text)) (take n (drop b text))
+one_byte text a b n inside h z =
+    let some : 0 < n = omega arith in
+    let e : n - 1 ≡ 0 = omega arith in
+    sym (ap (λ (s : List ℕ). same_name s (take n (drop b text))) (take-here text a n some (omega (arith, inside.first)))
+    ∙ ap (λ (s : List ℕ). same_name (get_or text a 0 ∷ take (n - 1) (drop (a + 1) text)) s) (take-here text b n some (omega (arith, inside.second)))
+    ∙ ap (λ (m : ℕ). eqb (get_or text a 0) (get_or text b 0) && same_name (take m (drop (a + 1) text)) (take m (drop (b + 1) text))) e
+    ∙ and_true (eqb (get_or text a 0) (get_or text b 0)))
+
 -- a name's bytes at both places, with a byte behind them at the second
 pub inside_both : (text : List ℕ) (a b n : ℕ) → a ≤ length text → n ≡ run (drop a text) → n < length text - b → BothInside text a b n
 inside_both text a b n ha e h = record { first = omega (arith, e, run_inside text a ha); second = omega (arith, h) }

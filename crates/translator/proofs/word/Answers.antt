@@ -13,4 +13,4 @@ returns-in-Ok c =
 
 pub returns-in-Err : goal.returns-in-Err
 returns-in-Err c =
-    rw (c.number.ensures, c.shown-place.ensures, c.shown-wanted.ensures, c.shown-found.ensures) (sym (ap (λ (x : Result ℕ Refusal). packed (said_answer x)) c.in-Err.is))
+    rw (c.refusal_word.ensures, c.number.ensures) (sym (ap (λ (x : Result ℕ Refusal). packed (said_answer x)) c.in-Err.is))

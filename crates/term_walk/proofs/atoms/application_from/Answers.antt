@@ -1,6 +1,4 @@
 -- One more atom begins here, or the level is done. Assumes nothing.
-use mathlib.Core.Path.{ap}
-use Rattle.std.specs.Prelude.{Ok}
 use Rattle.term_walk.proofs.AtomLaws.{application_on, application-done}
 use Rattle.notation_machine.specs.TermMachine.{some}
 use mathlib.Core.Path.{refl}
@@ -14,7 +12,7 @@ atom_word-w-requires c =
 
 pub returns-then-w-eq0 : goal.returns-then-w-eq0
 returns-then-w-eq0 c =
-    application-done c.args.text.now c.args.work.now c.args.h c.requires.readable (c.atom_word-w.ensures.none c.if-w-eq0.true) _ (ap Ok c.done.ensures)
+    application-done c.args.text.now c.args.work.now c.args.h c.requires.readable (c.atom_word-w.ensures.none c.if-w-eq0.true) _ c.done.ensures
 
 pub atom_at-requires : goal.atom_at-requires
 atom_at-requires c =

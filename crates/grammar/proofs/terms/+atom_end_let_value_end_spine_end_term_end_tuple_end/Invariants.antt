@@ -1,6 +1,6 @@
 -- Terms meet their contracts: one proof of the cycle of calls. The measure is the levels that are left, and in a level the order of the calls.
 -- Assumes nothing.
-use Prim.Native.Nat.{ℕ, ◌+◌, ◌*◌, ◌<◌}
+use Prim.Native.Nat.{ℕ, ◌+◌, ◌*◌, ◌≤◌, ◌<◌}
 use mathlib.Core.Bool.{false}
 use lib.ListN.{length}
 use Rattle.calculus.specs.Answer.{good}
@@ -9,23 +9,26 @@ use Rattle.notation_calculus.specs.Grammar.{expect}
 use Rattle.words.specs.Lexed.{from, Lexed}
 use Rattle.grammar.specs.Ends.{type_step, term_step, WordThere}
 use Rattle.grammar.specs.Skips.{trees_end, tuple_end, atom_end, atoms_end, spine_end}
-use Rattle.grammar.proofs.LoopLaws.{Turning}
-use Rattle.grammar.proofs.terms.+atom_end_bound_end_let_body_end_spine_end_term_end_tuple_end.Given as goal
+use Rattle.grammar.proofs.LoopLaws.{Inner, Turning}
+use Rattle.grammar.proofs.terms.+atom_end_let_value_end_spine_end_term_end_tuple_end.Given as goal
 
 abbrev pub decreases-atom_end : goal.decreases-atom_end
 decreases-atom_end l = 8 * l.more + 2
 
-abbrev pub decreases-bound_end : goal.decreases-bound_end
-decreases-bound_end l = 8 * l.more + 1
-
-abbrev pub decreases-let_body_end : goal.decreases-let_body_end
-decreases-let_body_end l = 8 * l.more + 1
+abbrev pub decreases-let_value_end : goal.decreases-let_value_end
+decreases-let_value_end l = 8 * l.more + 1
 
 abbrev pub decreases-spine_end : goal.decreases-spine_end
 decreases-spine_end l = 8 * l.more + 3
 
 abbrev pub decreases-term_end : goal.decreases-term_end
 decreases-term_end l = 8 * l.more
+
+abbrev pub invariant-term_end-loop-left : goal.invariant-term_end-loop-left
+invariant-term_end-loop-left l = Lexed l.text l.next × (l.left ≤ l.more × Inner l.text (length (from l.text l.at)) (term_step l.more (from l.text l.at)) (length (from l.text l.next)) (term_step l.left (from l.text l.next)))
+
+abbrev pub decreases-term_end-loop-left : goal.decreases-term_end-loop-left
+decreases-term_end-loop-left l = l.left
 
 abbrev pub decreases-tuple_end : goal.decreases-tuple_end
 decreases-tuple_end l = 8 * l.more + 1
